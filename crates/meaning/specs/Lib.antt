@@ -1,0 +1,9 @@
+pub mod Basics
+pub mod Facts
+pub mod Rules
+pub mod Fit
+pub mod Firing
+pub mod Words
+pub mod Translation
+pub mod Meld
+pub mod WellFormed
