@@ -7,3 +7,4 @@ pub mod Words
 pub mod Translation
 pub mod Meld
 pub mod WellFormed
+pub mod Examples

@@ -1,0 +1,11 @@
+pub mod Numbers
+pub mod Marks
+pub mod InPlace
+pub mod Judge
+pub mod Board
+pub mod Book
+pub mod Strip
+pub mod Encode
+pub mod Entries
+pub mod Display
+pub mod Examples
