@@ -2,6 +2,7 @@
 -- "Records are judged in order"). A file is the list of its bytes.
 use Prim.Native.Nat.{ℕ, zero, suc, _+_, _*_, _-_}
 use mathlib.Core.Bool.{Bool, true, false}
+use mathlib.Core.Option.{Option, none, some}
 use mathlib.Core.List.{List, [], _∷_}
 use lib.ListN.{length}
 use Rattle.files.specs.Numbers.{Refusal, CUT, TRAIL}
@@ -10,6 +11,11 @@ use Rattle.files.specs.Numbers.{Refusal, CUT, TRAIL}
 pub data Verdict (S : Type 0) : Type 0 where
   accepted : S → Verdict S
   refused : Refusal → ℕ → Verdict S
+
+-- what a check tells of it: nothing where the file is accepted, else the refusal and its place
+abbrev pub told : {S : Type 0} → Verdict S → Option (Refusal × ℕ)
+told (accepted s) = none
+told (refused why place) = some (why, place)
 
 -- the judgement of one record: what is read so far and the bytes after the record; or the file has ended; or a refusal
 pub data Judged (S : Type 0) : Type 0 where
