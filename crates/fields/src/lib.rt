@@ -1,6 +1,6 @@
 // Bytes, two-byte numbers and marks, read where they stand in a file. Past the end they are 0.
 ghost use mathlib.Core.Path.{_≡_};
-ghost use Prim.Native.Nat.{ℕ, _+_, _*_, _<_};
+ghost use Prim.Native.Nat.{_+_, _*_, _<_};
 ghost use Rattle.files.specs.Marks.{isMark};
 ghost use Rattle.files.specs.InPlace.{byteAt, twoAt};
 

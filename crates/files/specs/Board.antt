@@ -1,7 +1,6 @@
 -- A board file (document 01, 'The files'): "`ca` kind, numbers; all `ca` before `no` (kind, numbers); then `en`."
 use Prim.Native.Nat.{ℕ, zero, suc, _-_}
 use mathlib.Core.Bool.{Bool, true, false, not, _&&_}
-use mathlib.Core.Option.{Option, none, some}
 use mathlib.Core.List.{List, [], _∷_, _++_}
 use lib.ListN.{length}
 use lib.Dec.{ltb}

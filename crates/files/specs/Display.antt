@@ -1,6 +1,5 @@
 -- What the display program prints (document 01, 'Known boards', last paragraph), byte for byte, for the files `book` and `board`.
 use Prim.Native.Nat.{ℕ, zero, suc, _+_, _/_, _%_}
-use mathlib.Core.Bool.{Bool, true, false}
 use mathlib.Core.List.{List, [], _∷_, _++_}
 use lib.Dec.{ltb}
 use Rattle.meaning.specs.Basics.{if_then_else_}

@@ -1,7 +1,6 @@
 -- The six entries, on bytes: for every input the answer, and every byte of the output afterwards (document 01, 'Numbers a terminal may show':
 -- "Book or strip is judged first, then board, then SHORT.").
 use Prim.Native.Nat.{ℕ}
-use mathlib.Core.Bool.{Bool, true, false}
 use mathlib.Core.List.{List, [], _++_}
 use lib.ListN.{length, drop}
 use lib.Dec.{ltb}
@@ -10,7 +9,7 @@ use Rattle.meaning.specs.Facts.{longestBoard, longestStrip}
 use Rattle.meaning.specs.Firing.{Ran, run}
 use Rattle.meaning.specs.Words.{stripKinds, runStrip}
 use Rattle.meaning.specs.Translation.{translate}
-use Rattle.files.specs.Numbers.{Refusal, SHORT, File, book, strip, board, output, Answer, refusal, acceptance, endAnswer}
+use Rattle.files.specs.Numbers.{SHORT, File, book, strip, board, output, Answer, refusal, acceptance, endAnswer}
 use Rattle.files.specs.Judge.{Verdict, accepted, refused}
 use Rattle.files.specs.Board.{judgeBoard}
 use Rattle.files.specs.Book.{judgeBook}

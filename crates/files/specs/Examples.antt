@@ -2,17 +2,17 @@
 -- (The known boards K1 to K10 stand in crates/promises.)
 use mathlib.Core.Path.{_≡_, refl}
 use Prim.Native.Nat.{ℕ}
-use mathlib.Core.Bool.{Bool, true, false}
+use mathlib.Core.Bool.{true, false}
 use mathlib.Core.List.{List, [], _∷_, _++_}
 use lib.ListN.{length, replicate}
 use Rattle.meaning.specs.Basics.{first, fold}
-use Rattle.meaning.specs.Facts.{Kind, Fact, Board}
-use Rattle.meaning.specs.Rules.{Term, constant, variable, Atom, equal, less, lessOrEqual, Test, Sweep, Rule, Book}
+use Rattle.meaning.specs.Facts.{Board}
+use Rattle.meaning.specs.Rules.{constant, variable, equal, less, lessOrEqual, Book}
 use Rattle.meaning.specs.Fit.{agreeAll, holdAll, fit, numbered, spread, choices, firstFit}
 use Rattle.meaning.specs.Firing.{runSweep, runSweeps, unusedRows, ofClass, fireFrom, fire, repeat, run}
-use Rattle.meaning.specs.Words.{Word, KIND, OPEN, SEEK, TEST, PUT, JUMP, QUIET, heldBy, nextRow, onLast, step, start, attemptFrom, attempt, runStrip}
+use Rattle.meaning.specs.Words.{KIND, OPEN, SEEK, TEST, JUMP, QUIET}
 use Rattle.meaning.specs.Translation.{boundByTerms, boundBy, argumentWords, testWords, bodyWords, bodyLength, argWords, headWords, headLength, sweepLength, sweepsLength, resume, sweepWords, sweepsWords, ruleLength, ruleWords, rulesWords, translate}
-use Rattle.files.specs.Numbers.{CUT, MARK, PLACE, NOCARD, BARE, MANY, FIELD, LOOSE, TRAIL, SHORT, STRIP, Answer}
+use Rattle.files.specs.Numbers.{CUT, MARK, PLACE, NOCARD, BARE, MANY, FIELD, LOOSE, TRAIL, STRIP}
 use Rattle.files.specs.Marks.{KD, RU, BA, TE, HE, SW, CA, NO, EN}
 use Rattle.files.specs.InPlace.{recordsAt, manyAt, groupsAt, ruleAt, boardAt, kindsAt, bookAt}
 use Rattle.files.specs.Judge.{accepted, refused, judge}
@@ -20,7 +20,7 @@ use Rattle.files.specs.Board.{boardRecord, judgeBoard}
 use Rattle.files.specs.Book.{bookRecord, judgeBook}
 use Rattle.files.specs.Strip.{wordsAt, judgeWords, judgeStrip}
 use Rattle.files.specs.Encode.{concatMap, encodeBoard, encodeGroups, encodeBook, encodeStrip}
-use Rattle.files.specs.Entries.{Outcome, bytesAfter, checkBook, checkBoard, checkStrip, runBookFile, translateFile, runStripFile}
+use Rattle.files.specs.Entries.{bytesAfter, runBookFile, translateFile}
 
 -- ---- a book with everything in it
 

@@ -1,6 +1,5 @@
 -- An accepted file is read where it stands. These readers are total: past the end they read 0, and they judge nothing.
 use Prim.Native.Nat.{ℕ, zero, suc, _+_, _*_}
-use mathlib.Core.Bool.{Bool, true, false}
 use mathlib.Core.List.{List, [], _∷_}
 use lib.ListN.{getD}
 use lib.Dec.{eqb}

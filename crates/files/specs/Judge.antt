@@ -1,11 +1,16 @@
 -- How a book and a board are judged: what a record may answer, one field, and record after record (document 01, 'Numbers a terminal may show':
 -- "Records are judged in order"). A file is the list of its bytes.
-use Prim.Native.Nat.{ℕ, zero, suc, _+_, _*_, _-_}
+use Prim.Native.Nat.{ℕ, zero, suc, _+_, _*_, _-_, _<_}
 use mathlib.Core.Bool.{Bool, true, false}
 use mathlib.Core.Option.{Option, none, some}
 use mathlib.Core.List.{List, [], _∷_}
 use lib.ListN.{length}
+use Rattle.meaning.specs.Basics.{All}
 use Rattle.files.specs.Numbers.{Refusal, CUT, TRAIL}
+
+-- every element of a file is a byte
+abbrev pub Bytes : List ℕ → Type 0
+Bytes file = All (λ b. b < 256) file
 
 -- the judgement of a file: the value that it holds, or a refusal and its place
 pub data Verdict (S : Type 0) : Type 0 where

@@ -1,6 +1,5 @@
 -- Numbers a terminal may show (document 01, the table of that name and the paragraph below it), and what an answer consists of.
 use Prim.Native.Nat.{ℕ}
-use mathlib.Core.List.{List}
 use Rattle.meaning.specs.Firing.{End, Quiet, Limit, Full, Spent, Stuck, noRule}
 
 -- the refusals, in the table's order

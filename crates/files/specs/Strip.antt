@@ -7,7 +7,6 @@ use lib.ListN.{length}
 use lib.Dec.{eqb, leb, ltb}
 use Rattle.meaning.specs.Basics.{if_then_else_}
 use Rattle.meaning.specs.Facts.{mostKinds, mostRules, variables, mostNumbers, longestStrip}
-use Rattle.meaning.specs.Rules.{Test}
 use Rattle.meaning.specs.Words.{Word, KIND, OPEN, SEEK, BIND, SAME, LIT, TEST, KEEP, PUT, ARG, JUMP, FIRE, QUIET, cursorCount}
 use Rattle.files.specs.Numbers.{STRIP}
 use Rattle.files.specs.Judge.{Verdict, accepted, refused}

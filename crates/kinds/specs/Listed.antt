@@ -1,9 +1,8 @@
 -- What the struct `Kinds` says: the list of kinds in document 01's terms.
 use Prim.Native.Nat.{ℕ, zero, suc, _+_}
-use mathlib.Core.Bool.{Bool, true, false}
 use mathlib.Core.List.{List, [], _∷_}
 use lib.ListN.{getD, set, replicate}
-use lib.Dec.{eqb, leb, ltb}
+use lib.Dec.{eqb, leb}
 use Rattle.meaning.specs.Basics.{if_then_else_}
 use Rattle.meaning.specs.Facts.{Kind, mostKinds}
 use Rattle.kinds.specs.declared.Kinds.{Kinds}

@@ -1,16 +1,15 @@
 -- Worked examples: each definition computes what its sentence says. (The known boards K1 to K10 stand in crates/promises.)
 use mathlib.Core.Path.{_≡_, refl}
 use Prim.Native.Nat.{ℕ}
-use mathlib.Core.Bool.{Bool, true, false}
-use mathlib.Core.Option.{Option, none, some}
+use mathlib.Core.Bool.{true, false}
 use mathlib.Core.List.{List, [], _∷_, map}
-use lib.ListN.{length, replicate}
+use lib.ListN.{replicate}
 use Rattle.meaning.specs.Basics.{first, fold}
 use Rattle.meaning.specs.Facts.{Kind, Fact, Board}
-use Rattle.meaning.specs.Rules.{Term, constant, variable, Atom, equal, unequal, less, lessOrEqual, compare, Test, Sweep, Rule, Book}
-use Rattle.meaning.specs.Fit.{Row, Choice, agreeAll, holdAll, fit, numbered, spread, choices, firstFit}
-use Rattle.meaning.specs.Firing.{runSweep, runSweeps, unusedRows, ofClass, hasRoom, quiet, full, fired, fireFrom, fire, done, spent, stuck, Quiet, Limit, ended, repeat, run}
-use Rattle.meaning.specs.Words.{Word, KIND, OPEN, SEEK, BIND, SAME, LIT, TEST, KEEP, PUT, ARG, JUMP, FIRE, QUIET, heldBy, nextRow, onLast, step, start, attemptFrom, attempt, runStrip}
+use Rattle.meaning.specs.Rules.{Term, constant, variable, Atom, equal, unequal, less, lessOrEqual, compare, Book}
+use Rattle.meaning.specs.Fit.{Row, agreeAll, holdAll, fit, numbered, spread, choices, firstFit}
+use Rattle.meaning.specs.Firing.{runSweep, runSweeps, unusedRows, ofClass, hasRoom, quiet, fired, fireFrom, fire, done, spent, stuck, Quiet, Limit, ended, repeat, run}
+use Rattle.meaning.specs.Words.{KIND, OPEN, SEEK, BIND, SAME, KEEP, PUT, ARG, JUMP, FIRE, QUIET, heldBy, nextRow, onLast, step, start, attemptFrom, attempt}
 use Rattle.meaning.specs.Translation.{boundByTerms, boundBy, argumentWords, testWords, bodyWords, bodyLength, argWords, headWords, headLength, sweepLength, sweepsLength, resume, sweepWords, sweepsWords, ruleLength, ruleWords, rulesWords, translate}
 
 abbrev cards : ℕ → Kind

@@ -1,6 +1,6 @@
 -- What a rule book says: terms, atoms, tests, sweeps, rules (document 01, 'What the board knows' and 'The files').
 use Prim.Native.Nat.{ℕ}
-use mathlib.Core.Bool.{Bool, true, false, not, _||_}
+use mathlib.Core.Bool.{Bool, false, not, _||_}
 use mathlib.Core.List.{List, [], _∷_}
 use lib.Dec.{eqb, leb, ltb}
 use Rattle.meaning.specs.Facts.{Kind}
