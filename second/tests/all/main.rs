@@ -1,0 +1,13 @@
+//! All tests of the second program, one file for each part of document 01.
+
+mod agreement;
+mod entries;
+mod known_boards;
+mod longest;
+mod machine;
+mod order;
+mod pieces;
+mod quick_trial;
+mod refusals;
+mod sample_counts;
+mod strip_reasons;
