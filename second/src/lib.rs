@@ -8,6 +8,7 @@ pub mod machine;
 pub mod numbers;
 mod records;
 pub mod run;
+pub mod samples;
 pub mod sizes;
 pub mod strip;
 pub mod translate;

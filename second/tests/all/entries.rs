@@ -118,3 +118,27 @@ fn spent_keeps_the_completed_firings() {
     let limit = (ended(End::Limit, 2, 1, &after), after.clone());
     assert_eq!(run_strip(&strip, &before, 2, next), limit);
 }
+
+/// The display program itself, run in a folder of its own: a missing file is empty.
+#[test]
+fn the_display_program_reads_its_folder() {
+    let folder = std::path::Path::new(env!("CARGO_TARGET_TMPDIR")).join("display");
+    std::fs::remove_dir_all(&folder).ok();
+    std::fs::create_dir_all(&folder).unwrap();
+    let display = || {
+        let mut program = std::process::Command::new(env!("CARGO_BIN_EXE_second"));
+        let output = program.current_dir(&folder).output().unwrap();
+        assert!(output.status.success());
+        String::from_utf8(output.stdout).unwrap()
+    };
+    assert_eq!(display(), "refused book 1 0\n");
+    std::fs::write(folder.join("book"), hat_book()).unwrap();
+    assert_eq!(display(), "refused board 1 0\n");
+    std::fs::write(folder.join("board"), hat_board()).unwrap();
+    let text = "fired 1 end 20 rule 0\n\
+                card 0 7 40\n\
+                card 1 1\n\
+                card 3 2 7 40\n\
+                notice 2 2 7\n";
+    assert_eq!(display(), text);
+}
