@@ -1,5 +1,5 @@
 //! The second program of the Llwybrenu rule engine: a plain reading of document 01, written apart
-//! from the proved engine, so that the two can be compared. Six entries on bytes, as the engine has.
+//! from the proved engine, so that the two can be compared. It has the engine's six entries.
 
 pub mod board;
 pub mod book;

@@ -1,4 +1,4 @@
-//! Reading a file record by record: marks, bytes and two-byte values, with the place of each refusal.
+//! Reading a file record by record: marks, bytes, two-byte values, and the place of each refusal.
 
 use crate::numbers::{File, Refusal, Refused};
 

@@ -1,4 +1,5 @@
-//! The strip: the thirteen words, the reader that gives STRIP at the lowest faulty word, the writer.
+//! The strip: its thirteen words, the reader, which gives STRIP at the lowest faulty word, and the
+//! writer.
 //!
 //! Word of 8 bytes: code, a, b, c, value (2), target (2), low byte first.
 //!

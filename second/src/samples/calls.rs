@@ -23,7 +23,7 @@ pub enum Entry {
     RunStrip,
 }
 
-/// A call: the book or strip, the board, and the rest; an entry leaves aside what it has no use for.
+/// A call: the book or strip, the board and the rest; an entry leaves aside what it doesn't take.
 #[derive(Clone, Debug, PartialEq, Eq)]
 pub struct Call {
     pub entry: Entry,
@@ -78,7 +78,8 @@ pub fn book_and_board(dice: &mut Dice) -> (Vec<u8>, Vec<u8>) {
     (book, board)
 }
 
-/// A limit under which no attempt of a sound book's run takes more than the most steps.
+/// A limit under which no attempt of a sound book's run takes more than the most steps; the board
+/// may be any file.
 pub fn quick_limit(dice: &mut Dice, book: &[u8], board: &[u8]) -> u16 {
     let limit = match dice.weighted(&[3, 20, 77]) {
         0 => 0,
@@ -108,12 +109,18 @@ fn sound_call(dice: &mut Dice, entry: Entry) -> Call {
     } else if dice.chance(15) {
         entry = dice.one_of(&[Entry::CheckBook, Entry::CheckBoard, Entry::Translate]);
     }
-    let allowance = match dice.weighted(&[60, 20, 20]) {
+    let allowance = match dice.weighted(&[50, 15, 15, 20]) {
         0 => dice.one_of(&[MOST_STEPS, u64::MAX]),
         1 => dice.below(40) as u64,
-        _ => dice.below(400) as u64,
+        2 => dice.below(400) as u64,
+        _ => just_enough(&source, &board) - dice.below(2) as u64,
     };
     with_room(entry, source, board, limit, allowance)
+}
+
+/// The steps of a strip's first attempt; of another file, or of a long attempt, the most steps.
+fn just_enough(strip: &[u8], board: &[u8]) -> u64 {
+    crate::attempt_steps(strip, board, MOST_STEPS).unwrap_or(MOST_STEPS)
 }
 
 /// A free strip on a board of its kinds, under an allowance that ends loops soon.
@@ -134,11 +141,16 @@ fn bent_call(dice: &mut Dice) -> Call {
     with_room(Entry::RunStrip, strip, board, limit, 2_000)
 }
 
-/// A damaged book, with a board of a sound one; the limit keeps those short that are sound.
+/// A damaged book with any board; if it's sound all the same, with a board of its own.
 fn bad_book_call(dice: &mut Dice) -> Call {
-    let board = match dice.chance(50) {
-        true => b"en".to_vec(),
-        false => book_and_board(dice).1,
+    let book = damaged_book(dice);
+    let (board, limit) = match crate::check_book(&book).number {
+        0 => {
+            let board = board(dice, &book);
+            let limit = quick_limit(dice, &book, &board);
+            (board, limit)
+        }
+        _ => (book_and_board(dice).1, 5),
     };
     let entries = [
         Entry::CheckBook,
@@ -147,7 +159,7 @@ fn bad_book_call(dice: &mut Dice) -> Call {
         Entry::Translate,
     ];
     let entry = dice.one_of(&entries);
-    with_room(entry, damaged_book(dice), board, 0, 0)
+    with_room(entry, book, board, limit, 0)
 }
 
 /// A damaged board of a sound book or of its strip.
@@ -155,9 +167,10 @@ fn bad_board_call(dice: &mut Dice) -> Call {
     let book = book(dice);
     let board = damaged_board(dice, &book);
     let strip = translated_strip(&book);
+    let limit = quick_limit(dice, &book, &board);
     match dice.below(3) {
         0 => with_room(Entry::CheckBoard, book, board, 0, 0),
-        1 => with_room(Entry::RunBook, book, board, 0, 0),
+        1 => with_room(Entry::RunBook, book, board, limit, 0),
         _ => with_room(Entry::RunStrip, strip, board, 5, 2_000),
     }
 }

@@ -10,7 +10,7 @@ use crate::sizes::*;
 /// A book with some damage; now and then it's sound all the same.
 pub fn damaged_book(dice: &mut Dice) -> Vec<u8> {
     let mut book = invent_book(dice);
-    match dice.weighted(&[50, 15, 10, 8, 8, 9]) {
+    match dice.weighted(&[45, 14, 10, 16, 6, 9]) {
         0 => damage_records(dice, book_records(&book)),
         1 => {
             change_terms(dice, &mut book);
@@ -52,7 +52,7 @@ pub fn damaged_board(dice: &mut Dice, book: &[u8]) -> Vec<u8> {
 /// Damage that knows records but not what they say.
 pub fn damage_records(dice: &mut Dice, mut records: Vec<Vec<u8>>) -> Vec<u8> {
     let chosen = dice.below(records.len());
-    match dice.below(11) {
+    match dice.weighted(&[1, 1, 1, 4, 1, 1, 1, 1, 1, 1, 1, 1]) {
         0 => return cut(dice, records.concat()),
         1 => return flip_bits(dice, records.concat()),
         2 => return trail(dice, records.concat()),
@@ -73,6 +73,7 @@ pub fn damage_records(dice: &mut Dice, mut records: Vec<Vec<u8>>) -> Vec<u8> {
             records[chosen] = records[chosen].repeat(times);
         }
         9 => records.truncate(chosen),
+        10 => return noise(dice),
         _ => change_field(dice, &mut records[chosen]),
     }
     records.concat()
@@ -102,6 +103,12 @@ pub fn trail(dice: &mut Dice, mut bytes: Vec<u8>) -> Vec<u8> {
         bytes.push(dice.next() as u8);
     }
     bytes
+}
+
+/// Bytes that are no file at all, or begin like one.
+fn noise(dice: &mut Dice) -> Vec<u8> {
+    let begin = dice.one_of(&["", "", "kd", "ru", "ca", "no"]);
+    trail(dice, begin.as_bytes().to_vec())
 }
 
 /// Another file's mark, another mark of this file, or none at all.

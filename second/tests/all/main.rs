@@ -2,6 +2,7 @@
 
 mod agreement;
 mod entries;
+mod every_choice;
 mod known_boards;
 mod longest;
 mod machine;

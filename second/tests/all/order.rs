@@ -122,7 +122,7 @@ fn many_before_cut_field_and_loose() {
     }
 }
 
-/// Fields from left to right; in each CUT before FIELD, so a bad field comes before a cut later one.
+/// Fields from left to right, in each CUT before FIELD: a bad field comes before a later one's cut.
 #[test]
 fn fields_from_left_to_right() {
     last_refused(&[vec![b'k', b'd', 2]], Refusal::Field);

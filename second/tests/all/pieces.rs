@@ -1,4 +1,4 @@
-//! Pieces of files, written here byte by byte so that the tests don't lean on the program's writers.
+//! Pieces of files, written here byte by byte: the tests don't lean on the program's writers.
 
 use second::numbers::{Answer, End, Refusal};
 use second::sizes::{LONGEST_BOARD, LONGEST_STRIP};
