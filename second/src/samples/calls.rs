@@ -124,7 +124,7 @@ fn just_enough(strip: &[u8], board: &[u8]) -> u64 {
 }
 
 /// A free strip on a board of its kinds, under an allowance that ends loops soon.
-fn free_call(dice: &mut Dice) -> Call {
+pub fn free_call(dice: &mut Dice) -> Call {
     let strip = free_strip(dice);
     let kinds = read_strip(&strip).expect("a sound strip").kinds;
     let board = board_of_kinds(dice, &kinds);

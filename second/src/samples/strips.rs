@@ -147,29 +147,23 @@ impl<'a> WordWriter<'a> {
         }
     }
 
-    /// The same word with another target, cursor, kind, argument or register.
+    /// The same word with another target, cursor, kind, argument or register, if one is found soon.
     fn bend(&mut self, word: Word) -> Word {
-        let mut bytes = write_word(word);
         for _ in 0..20 {
-            bytes = write_word(word);
+            let mut bytes = write_word(word);
             match self.dice.below(4) {
                 0 => {
                     let target = self.dice.below(self.words) as u16;
                     bytes[6..].copy_from_slice(&target.to_le_bytes());
                 }
-                field => bytes[field] = self.dice.below(14) as u8,
+                field => bytes[field] = self.dice.below(CURSORS) as u8,
             }
-            if bytes != write_word(word) && self.is_sound(bytes) {
-                break;
+            match self.read_alone(bytes) {
+                Some(bent) if bent != word => return bent,
+                _ => {}
             }
-            bytes = write_word(word);
         }
-        self.read_alone(bytes).unwrap_or(word)
-    }
-
-    /// Whether the word may stand in the strip.
-    fn is_sound(&self, bytes: [u8; WORD_BYTES]) -> bool {
-        self.read_alone(bytes).is_some()
+        word
     }
 
     /// The word of these bytes, read in a strip of the same kinds and length.

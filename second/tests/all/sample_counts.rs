@@ -3,7 +3,7 @@
 use second::board::read_board;
 use second::book::read_book;
 use second::run::{look, Look};
-use second::samples::calls::{book_and_board, call, quick_limit, Entry};
+use second::samples::calls::{book_and_board, call, free_call, quick_limit, Entry};
 use second::samples::dice::Dice;
 use std::collections::BTreeMap;
 
@@ -34,11 +34,11 @@ fn watch(seed: u64) -> Did {
         did.firings += 1;
         let sweeps = &book.rules[firing.rule].sweeps;
         did.with_sweeps += usize::from(!sweeps.is_empty());
-        did.swept += usize::from(firing.taken.iter().any(|taken| !taken.is_empty()));
+        did.swept += usize::from(firing.taken.iter().any(|taken| *taken > 0));
         for (sweep, taken) in sweeps.iter().zip(&firing.taken) {
             match sweep.has_card_atom(&book.kinds) {
-                true => did.taken_with_cards += taken.len(),
-                false => did.taken_of_notices += taken.len(),
+                true => did.taken_with_cards += taken,
+                false => did.taken_of_notices += taken,
             }
         }
         board = firing.board;
@@ -88,6 +88,23 @@ fn every_number_occurs() {
     for number in 20..=24 {
         assert!(strip_ends.get(&number).is_some_and(|times| *times >= 20));
     }
+}
+
+/// Strips that no translation makes end in each of the five ways, and really fire.
+#[test]
+fn free_strips_end_in_every_way() {
+    let mut ends: BTreeMap<u8, usize> = BTreeMap::new();
+    let mut fired = 0;
+    for seed in 0..2_000 {
+        let call = free_call(&mut Dice::new(seed));
+        let answer = call.answer(&mut vec![0; call.room]);
+        *ends.entry(answer.number).or_default() += 1;
+        fired += usize::from(answer.firings > 0);
+    }
+    println!("free strips {ends:?}, fired {fired}");
+    let numbers: Vec<u8> = ends.keys().copied().collect();
+    assert_eq!(numbers, [20, 21, 22, 23, 24]);
+    assert!(ends.values().all(|times| *times >= 20) && fired >= 300);
 }
 
 #[test]
