@@ -111,6 +111,7 @@ pub fn board_records(board: &Board) -> Vec<Vec<u8>> {
     records
 }
 
+/// A fact's record.
 fn write_fact(mark: &[u8; 2], fact: &Fact) -> Vec<u8> {
     let mut record = mark.to_vec();
     record.push(fact.kind);

@@ -385,12 +385,14 @@ pub fn book_records(book: &Book) -> Vec<Vec<u8>> {
     records
 }
 
+/// The records of body, tests and heads.
 fn write_part(records: &mut Vec<Vec<u8>>, part: &Part) {
     records.extend(part.body.iter().map(|atom| write_atom(b"ba", atom)));
     records.extend(part.tests.iter().map(write_test));
     records.extend(part.heads.iter().map(|atom| write_atom(b"he", atom)));
 }
 
+/// An atom's record.
 fn write_atom(mark: &[u8; 2], atom: &Atom) -> Vec<u8> {
     let mut record = mark.to_vec();
     record.push(atom.kind);
@@ -400,6 +402,7 @@ fn write_atom(mark: &[u8; 2], atom: &Atom) -> Vec<u8> {
     record
 }
 
+/// A test's record.
 fn write_test(test: &Test) -> Vec<u8> {
     let mut record = b"te".to_vec();
     record.push(test.comparison as u8);
@@ -408,6 +411,7 @@ fn write_test(test: &Test) -> Vec<u8> {
     record
 }
 
+/// A term's tag and value.
 fn write_term(record: &mut Vec<u8>, term: Term) {
     let (tag, value) = match term {
         Term::Constant(value) => (0, value),

@@ -19,12 +19,14 @@ pub fn display(book: &[u8], board: &[u8]) -> String {
     }
 }
 
+/// The run that is shown, or the first refusal.
 fn run_for_display(book: &[u8], board: &[u8]) -> Result<Ended, Refused> {
     let book = read_book(book)?;
     let board = read_board(&book.kinds, board)?;
     Ok(run(&book, &board, DISPLAY_LIMIT))
 }
 
+/// The line of the end, then a line for each row.
 fn show_end(ended: &Ended) -> String {
     let end = ended.end as u8;
     let mut text = format!("fired {} end {} rule {}\n", ended.firings, end, ended.rule);

@@ -11,6 +11,7 @@ fn read_file(name: &str) -> io::Result<Vec<u8>> {
     }
 }
 
+/// Reads the two files and prints the text.
 fn main() -> io::Result<()> {
     let book = read_file("book")?;
     let board = read_file("board")?;

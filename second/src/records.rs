@@ -70,6 +70,7 @@ impl<'a> RecordReader<'a> {
         self.refused_at(refusal, self.record)
     }
 
+    /// A refusal of this file at a place.
     fn refused_at(&self, refusal: Refusal, place: usize) -> Refused {
         Refused {
             refusal,

@@ -118,6 +118,7 @@ pub fn read_strip(bytes: &[u8]) -> Result<Strip, Refused> {
     Ok(strip)
 }
 
+/// STRIP at a word.
 fn refuse(place: usize) -> Refused {
     Refused {
         refusal: Refusal::Strip,
@@ -127,6 +128,7 @@ fn refuse(place: usize) -> Refused {
 }
 
 impl Fields {
+    /// The fields of a word's 8 bytes.
     fn of(word: &[u8]) -> Fields {
         Fields {
             code: word[0],
@@ -140,23 +142,23 @@ impl Fields {
 
     /// The word, if its code is known, its fields are in range and its unused bytes are zero.
     fn judge(&self, kinds: &[Kind], words: usize) -> Option<Word> {
-        let unused = self.unused_are_zero();
+        if !self.unused_are_zero() {
+            return None;
+        }
         match self.code {
-            0 if unused => self.judge_kind(),
-            1 if unused && self.a_cursor() => Some(Word::Open { cursor: self.a }),
-            2 if unused => self.judge_seek(kinds, words),
-            3 if unused => self.judge_bind(),
-            4 if unused => self.judge_same(words),
-            5 if unused => self.judge_lit(words),
-            6 if unused => self.judge_test(words),
-            7 if unused => Some(Word::Keep),
-            8 if unused && usize::from(self.a) < kinds.len() => Some(Word::Put { kind: self.a }),
-            9 if unused => self.judge_arg(),
-            10 if unused && self.target_within(words) => Some(Word::Jump {
-                target: self.target,
-            }),
-            11 if unused && usize::from(self.a) < RULES => Some(Word::Fire { rule: self.a }),
-            12 if unused => Some(Word::Quiet),
+            0 => self.judge_kind(),
+            1 => self.a_cursor().then_some(Word::Open { cursor: self.a }),
+            2 => self.judge_seek(kinds, words),
+            3 => self.judge_bind(),
+            4 => self.judge_same(words),
+            5 => self.judge_lit(words),
+            6 => self.judge_test(words),
+            7 => Some(Word::Keep),
+            8 => (usize::from(self.a) < kinds.len()).then_some(Word::Put { kind: self.a }),
+            9 => self.judge_arg(),
+            10 => self.judge_jump(words),
+            11 => (usize::from(self.a) < RULES).then_some(Word::Fire { rule: self.a }),
+            12 => Some(Word::Quiet),
             _ => None,
         }
     }
@@ -191,12 +193,14 @@ impl Fields {
             .all(|(field, used)| used || *field == 0)
     }
 
+    /// KIND: class 0 to 1, arity 0 to 4.
     fn judge_kind(&self) -> Option<Word> {
         let class = Class::from_number(self.a)?;
         let arity = self.b;
         (usize::from(arity) <= NUMBERS).then_some(Word::Kind(Kind { class, arity }))
     }
 
+    /// SEEK: cursor, declared kind, target.
     fn judge_seek(&self, kinds: &[Kind], words: usize) -> Option<Word> {
         let declared = usize::from(self.b) < kinds.len();
         let sound = self.a_cursor() && declared && self.target_within(words);
@@ -207,6 +211,7 @@ impl Fields {
         })
     }
 
+    /// BIND: cursor, argument, register.
     fn judge_bind(&self) -> Option<Word> {
         let sound = self.a_cursor() && self.b_argument() && self.c_register();
         sound.then_some(Word::Bind {
@@ -216,6 +221,7 @@ impl Fields {
         })
     }
 
+    /// SAME: cursor, argument, register, target.
     fn judge_same(&self, words: usize) -> Option<Word> {
         let sound =
             self.a_cursor() && self.b_argument() && self.c_register() && self.target_within(words);
@@ -227,6 +233,7 @@ impl Fields {
         })
     }
 
+    /// LIT: cursor, argument, target; any value.
     fn judge_lit(&self, words: usize) -> Option<Word> {
         let sound = self.a_cursor() && self.b_argument() && self.target_within(words);
         sound.then_some(Word::Lit {
@@ -237,6 +244,7 @@ impl Fields {
         })
     }
 
+    /// TEST: code a to 15, both terms, target.
     fn judge_test(&self, words: usize) -> Option<Word> {
         let comparison = Comparison::from_number(self.a / 4)?;
         let left = term(self.a / 2 % 2, u16::from_le_bytes([self.b, self.c]))?;
@@ -252,24 +260,35 @@ impl Fields {
         })
     }
 
+    /// ARG: position and term.
     fn judge_arg(&self) -> Option<Word> {
         let term = term(self.b, self.value)?;
         let position = self.a;
         (usize::from(position) < NUMBERS).then_some(Word::Arg { position, term })
     }
 
+    /// JUMP: target.
+    fn judge_jump(&self, words: usize) -> Option<Word> {
+        let target = self.target;
+        self.target_within(words).then_some(Word::Jump { target })
+    }
+
+    /// Whether a is a cursor's number.
     fn a_cursor(&self) -> bool {
         usize::from(self.a) < CURSORS
     }
 
+    /// Whether b is an argument's number.
     fn b_argument(&self) -> bool {
         usize::from(self.b) < NUMBERS
     }
 
+    /// Whether c is a register's number.
     fn c_register(&self) -> bool {
         usize::from(self.c) < REGISTERS
     }
 
+    /// Whether the target is one of the strip's words.
     fn target_within(&self, words: usize) -> bool {
         usize::from(self.target) < words
     }
@@ -328,12 +347,14 @@ pub fn write_word(word: Word) -> [u8; WORD_BYTES] {
     }
 }
 
+/// TEST's 8 bytes.
 fn write_test(test: Test, target: u16) -> [u8; WORD_BYTES] {
     let a = 4 * test.comparison as u8 + 2 * tag(test.left) + tag(test.right);
     let [b, c] = operand(test.left).to_le_bytes();
     bytes(6, [a, b, c], operand(test.right), target)
 }
 
+/// The 8 bytes of these fields.
 fn bytes(code: u8, abc: [u8; 3], value: u16, target: u16) -> [u8; WORD_BYTES] {
     let value = value.to_le_bytes();
     let target = target.to_le_bytes();
@@ -341,6 +362,7 @@ fn bytes(code: u8, abc: [u8; 3], value: u16, target: u16) -> [u8; WORD_BYTES] {
     [code, a, b, c, value[0], value[1], target[0], target[1]]
 }
 
+/// A term's tag.
 fn tag(term: Term) -> u8 {
     match term {
         Term::Constant(_) => 0,
@@ -348,6 +370,7 @@ fn tag(term: Term) -> u8 {
     }
 }
 
+/// A term's value, or its variable's number.
 fn operand(term: Term) -> u16 {
     match term {
         Term::Constant(value) => value,

@@ -152,6 +152,7 @@ fn part_length(part: &Part) -> usize {
     body + part.tests.len() + 1 + heads
 }
 
+/// A word's number as a target.
 fn word_number(number: usize) -> u16 {
     u16::try_from(number).expect("a strip has fewer than 65,536 words")
 }

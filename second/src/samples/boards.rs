@@ -110,6 +110,7 @@ impl Planter<'_> {
         values
     }
 
+    /// Puts a row on the board for each body atom.
     fn plant_body(&mut self, body: &[Atom], values: &Numbers) {
         for atom in body {
             let numbers = atom.terms.iter().map(|term| number_of(*term, values));
@@ -164,6 +165,7 @@ fn invent_number(dice: &mut Dice, numbers: &[u16]) -> u16 {
     }
 }
 
+/// A term's number under the values.
 fn number_of(term: Term, values: &Numbers) -> u16 {
     match term {
         Term::Constant(value) => value,

@@ -58,6 +58,7 @@ struct Author<'a> {
 }
 
 impl<'a> Author<'a> {
+    /// An author of rules over these kinds.
     fn new(dice: &'a mut Dice, kinds: &'a [Kind]) -> Author<'a> {
         let constants = (0..dice.between(1, 3)).map(|_| dice.number()).collect();
         Author {
@@ -144,6 +145,7 @@ impl<'a> Author<'a> {
         }
     }
 
+    /// A head atom of any kind, over known variables.
     fn head_atom(&mut self, known: &[u16]) -> Atom {
         let kind = self.dice.below(self.kinds.len());
         let terms = (0..self.kinds[kind].arity).map(|_| self.known_term(known));
@@ -153,6 +155,7 @@ impl<'a> Author<'a> {
         }
     }
 
+    /// A test over known variables.
     fn test(&mut self, known: &[u16]) -> Test {
         let comparisons = [
             Comparison::Equal,

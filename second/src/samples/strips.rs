@@ -100,6 +100,7 @@ struct WordWriter<'a> {
 }
 
 impl<'a> WordWriter<'a> {
+    /// A writer of words for a strip of these kinds and of that many words.
     fn new(dice: &'a mut Dice, kinds: &'a [Kind], words: usize) -> WordWriter<'a> {
         WordWriter {
             dice,
@@ -176,6 +177,7 @@ impl<'a> WordWriter<'a> {
         Some(read_strip(&strip).ok()?.words[self.kinds.len()])
     }
 
+    /// A target, mostly not before the word.
     fn target(&mut self, at: usize) -> u16 {
         match self.dice.chance(70) {
             true => self.dice.between(at.min(self.words - 1), self.words - 1) as u16,
@@ -183,6 +185,7 @@ impl<'a> WordWriter<'a> {
         }
     }
 
+    /// A cursor, mostly one of the first few.
     fn cursor(&mut self) -> u8 {
         match self.dice.chance(80) {
             true => self.dice.below(4) as u8,
@@ -190,10 +193,12 @@ impl<'a> WordWriter<'a> {
         }
     }
 
+    /// A declared kind.
     fn kind(&mut self) -> u8 {
         self.dice.below(self.kinds.len()) as u8
     }
 
+    /// A register, mostly one of the first few.
     fn register(&mut self) -> u8 {
         match self.dice.chance(80) {
             true => self.dice.below(3) as u8,
@@ -201,6 +206,7 @@ impl<'a> WordWriter<'a> {
         }
     }
 
+    /// SEEK of any cursor and kind.
     fn seek(&mut self, target: u16) -> Word {
         let (cursor, kind) = (self.cursor(), self.kind());
         self.sought.push((cursor, kind));
@@ -246,6 +252,7 @@ impl<'a> WordWriter<'a> {
         }
     }
 
+    /// A test of any two terms.
     fn test(&mut self) -> Test {
         let number = self.dice.below(4) as u8;
         Test {
@@ -255,6 +262,7 @@ impl<'a> WordWriter<'a> {
         }
     }
 
+    /// A register or a constant.
     fn term(&mut self) -> Term {
         match self.dice.chance(60) {
             true => Term::Variable(self.register().into()),
@@ -262,6 +270,7 @@ impl<'a> WordWriter<'a> {
         }
     }
 
+    /// PUT of any kind.
     fn put_word(&mut self) -> Word {
         let kind = self.kind();
         self.put = Some(kind);
