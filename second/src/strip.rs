@@ -95,7 +95,7 @@ struct Fields {
 /// Reads a strip, or gives STRIP at the lowest faulty word.
 pub fn read_strip(bytes: &[u8]) -> Result<Strip, Refused> {
     let length = bytes.len();
-    if length == 0 || length > LONGEST_STRIP || length % WORD_BYTES != 0 {
+    if length == 0 || length > LONGEST_STRIP || !length.is_multiple_of(WORD_BYTES) {
         return Err(refuse(0));
     }
     let words = length / WORD_BYTES;

@@ -100,7 +100,7 @@ pub fn flip_bits(dice: &mut Dice, mut bytes: Vec<u8>) -> Vec<u8> {
 /// Some bytes after the end.
 pub fn trail(dice: &mut Dice, mut bytes: Vec<u8>) -> Vec<u8> {
     for _ in 0..dice.between(1, 9) {
-        bytes.push(dice.next() as u8);
+        bytes.push(dice.roll() as u8);
     }
     bytes
 }
@@ -124,7 +124,7 @@ fn change_mark(dice: &mut Dice, record: &mut [u8]) {
 fn change_field(dice: &mut Dice, record: &mut [u8]) {
     if record.len() > 2 {
         let at = dice.between(2, record.len() - 1);
-        let any = dice.next() as u8;
+        let any = dice.roll() as u8;
         record[at] = dice.one_of(&[0, 1, 2, 3, 4, 5, 6, 11, 12, 31, 32, 255, any]);
     }
 }
@@ -153,7 +153,7 @@ fn change_terms(dice: &mut Dice, book: &mut Book) {
     }
     for _ in 0..dice.between(1, 2) {
         let chosen = dice.below(terms.len());
-        let any = dice.next() as u16;
+        let any = dice.roll() as u16;
         let last = VARIABLES as u16;
         let variable = dice.one_of(&[0, 1, 2, 3, 4, 5, 6, 7, 8, 9, 10, 11, last, 256, any]);
         *terms[chosen] = Term::Variable(variable);

@@ -12,7 +12,7 @@ impl Dice {
     }
 
     /// Any 64-bit number.
-    pub fn next(&mut self) -> u64 {
+    pub fn roll(&mut self) -> u64 {
         self.state = self.state.wrapping_add(0x9E37_79B9_7F4A_7C15);
         let mut mixed = self.state;
         mixed = (mixed ^ (mixed >> 30)).wrapping_mul(0xBF58_476D_1CE4_E5B9);
@@ -22,7 +22,7 @@ impl Dice {
 
     /// A number from 0 to one below the count, which isn't 0.
     pub fn below(&mut self, count: usize) -> usize {
-        (self.next() % count as u64) as usize
+        (self.roll() % count as u64) as usize
     }
 
     /// A number from the least to the most, both included.
@@ -64,7 +64,7 @@ impl Dice {
         match self.weighted(&[80, 15, 5]) {
             0 => self.below(4) as u16,
             1 => self.one_of(&[12, 255, 256, 257, 511, 32_768, 65_280, 65_535]),
-            _ => self.next() as u16,
+            _ => self.roll() as u16,
         }
     }
 }

@@ -68,7 +68,7 @@ pub fn faulty_strip(dice: &mut Dice) -> Vec<u8> {
         }
         _ => {
             let at = dice.below(strip.len());
-            let any = dice.next() as u8;
+            let any = dice.roll() as u8;
             let highest = [1, 2, 4, 5, 11, 12, 13, 14, 16, 31, 32, 255, any];
             strip[at] = dice.one_of(&highest);
         }
@@ -119,7 +119,7 @@ impl<'a> WordWriter<'a> {
                 cursor: self.cursor(),
             },
             1 => self.seek(target),
-            2 | 3 | 4 => self.reading_word(target),
+            2..=4 => self.reading_word(target),
             5 => Word::Test {
                 test: self.test(),
                 target,
