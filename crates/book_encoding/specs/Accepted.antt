@@ -19,6 +19,7 @@ use Rattle.files.specs.Board.{isEmpty}
 use Rattle.files.specs.InPlace.{comparisonOf}
 use Rattle.files.specs.Encode.{concatMap, classByte, encodeKind, encodeTerm, encodeAtom, comparisonNumber, encodeTest, encodeGroups, encodeSweep, encodeRule, encodeBook}
 use Rattle.files.specs.Book.{Mark, kd, ru, ba, te, he, sw, en, other, markOf, Open, noRule, inRule, inSweep, Reading, groups, withGroups, withSweep, rulesClosed, sweepOpened, sweepsSoFar, isInRule, mayStandHere, hasCard, bodied, mostInGroup, isBound, term, terms, atom, fields, afterPlace, bookRecord, emptySweep, emptyRule, emptyReading, bookOf, judgeBook}
+use Rattle.book_encoding.specs.Readings.{reading, closedBook, moreBody, moreTests, moreHeads, Bodied, has-card}
 use Rattle.book_encoding.specs.Lists.{Bytes, low-byte, high-byte, length-more, all-more, concat-more, absurd-bool, both, bytes-are}
 
 -- ---- fields: what holds of every refusal holds of a judgement, if it holds of what comes after the fields that pass
@@ -104,9 +105,6 @@ written kinds rules now = concatMap encodeKind kinds ++ concatMap encodeRule (ru
 
 abbrev writtenOf : Reading → List ℕ
 writtenOf r = written (r .kinds) (r .rules) (r .now)
-
-abbrev closedBook : Reading → Book
-closedBook r = record { kinds = r .kinds; rules = rulesClosed (r .rules) (r .now) }
 
 -- where a record leads: what is read is good, and its bytes are what it took from the file
 abbrev Leads : Reading → List ℕ → Judged Reading → Type 0
@@ -208,21 +206,6 @@ groups-more kinds rules (inSweep rule sweep) g bytes i good e =
 
 -- ---- what is closed is good
 
-has-card : (kinds : List Kind) (body : List Atom) → hasCard kinds body ≡ true → HasCard kinds body
-has-card kinds [] e = absurd-bool e
-has-card kinds (a ∷ body) e = cases (isCard kinds (a .kind)) refl e (has-card kinds body)
-  where
-    cases : (card : Bool) → isCard kinds (a .kind) ≡ card → (card || hasCard kinds body) ≡ true → (hasCard kinds body ≡ true → HasCard kinds body)
-        → (isCard kinds (a .kind) ≡ true) ⊎ HasCard kinds body
-    cases true c e more = inl c
-    cases false c e more = inr (more e)
-
--- the record that closes what is open came after a body that passes
-abbrev Bodied : List Kind → Open → Type 0
-Bodied kinds noRule = Unit {0}
-Bodied kinds (inRule rule) = HasCard kinds (rule .body)
-Bodied kinds (inSweep rule sweep) = 1 ≤ length (sweep .body)
-
 bodied-law : {S : Type 0} (P : Judged S → Type 0) → ((why : Refusal) (place : ℕ) → P (stop why place)) → (kinds : List Kind) (now : Open) (at : ℕ) (next : Judged S)
     → (Bodied kinds now → P next) → P (bodied kinds now at next)
 bodied-law P stops kinds noRule at next h = h tt
@@ -266,15 +249,6 @@ closed kinds rules (inSweep rule sweep) good b = (
 )
 
 -- ---- the groups that are open, with one member more
-
-abbrev moreBody : Open → Atom → Sweep
-moreBody now a = record { body = groups now .body ++ (a ∷ []); tests = groups now .tests; heads = groups now .heads }
-
-abbrev moreTests : Open → Test → Sweep
-moreTests now t = record { body = groups now .body; tests = groups now .tests ++ (t ∷ []); heads = groups now .heads }
-
-abbrev moreHeads : Open → Atom → Sweep
-moreHeads now a = record { body = groups now .body; tests = groups now .tests; heads = groups now .heads ++ (a ∷ []) }
 
 open-body : (kinds : List Kind) (rules : List Rule) (now : Open) (a : Atom) → GoodOpen kinds rules now → isInRule now ≡ true
     → isEmpty (groups now .tests) ≡ true → isEmpty (groups now .heads) ≡ true → length (groups now .body) < mostInGroup now → GoodAtom kinds anyVariable a
@@ -349,9 +323,6 @@ letters x y rest =
     cases false false false false false true g p q r s t u v = two-letters x y 0x73 0x77 rest u
     cases false false false false false false true p q r s t u v = two-letters x y 0x65 0x6e rest v
     cases false false false false false false false p q r s t u v = tt
-
-abbrev reading : List Kind → List Rule → Open → Reading
-reading kinds rules now = record { kinds = kinds; rules = rules; now = now }
 
 no-stop : (r : Reading) (whole : List ℕ) (why : Refusal) (place : ℕ) → Leads r whole (stop why place)
 no-stop r whole why place = tt

@@ -1,2 +1,4 @@
 pub mod Lists
+pub mod Readings
 pub mod Accepted
+pub mod Encoded
