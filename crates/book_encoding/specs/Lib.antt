@@ -2,3 +2,4 @@ pub mod Lists
 pub mod Readings
 pub mod Accepted
 pub mod Encoded
+pub mod Placed
