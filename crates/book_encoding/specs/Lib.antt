@@ -3,3 +3,4 @@ pub mod Readings
 pub mod Accepted
 pub mod Encoded
 pub mod Placed
+pub mod Sized
