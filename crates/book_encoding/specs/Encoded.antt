@@ -1,9 +1,9 @@
 -- The encoding of a good book is accepted, and the judgement reads that book: so two good books have different encodings. Each record is read
 -- forwards from the reading that it follows; what is left is judged from the reading with that record.
-use Prim.Native.Nat.{ℕ, zero, suc, _+_, _*_, _-_, _/_, _%_, _<_, _≤_}
+use Prim.Native.Nat.{ℕ, zero, suc, _+_, _-_, _<_, _≤_}
 use native.Mathlib.Omega.{arith}
-use mathlib.Core.Path.{_≡_, refl, sym, ap, ap₂, _∙_, subst}
-use mathlib.Core.Logic.{_⊎_, inl, inr}
+use mathlib.Core.Path.{_≡_, refl, sym, ap, _∙_, subst}
+use mathlib.Core.Logic.{_↔_}
 use mathlib.Core.Bool.{Bool, true, false, _&&_, _||_}
 use mathlib.Core.List.{List, [], _∷_, _++_, append-assoc, append-nil}
 use lib.ListN.{length, length-append}
@@ -11,17 +11,18 @@ use lib.Seq.{append-snoc}
 use lib.Dec.{eqb, leb, ltb}
 use borrow.Author.Tests.{lt-ltb, le-leb}
 use Rattle.meaning.specs.Basics.{if_then_else_, All}
-use Rattle.meaning.specs.Facts.{Kind, mostKinds, mostRules, mostInRule, mostSweeps, mostInSweep, variables, mostNumbers, isCard, arityOf}
+use Rattle.meaning.specs.Facts.{Kind, mostKinds, mostRules, mostInRule, mostSweeps, mostInSweep, variables, mostNumbers}
 use Rattle.meaning.specs.Rules.{Term, constant, variable, Atom, Comparison, equal, unequal, less, lessOrEqual, Test, Sweep, Rule, Book, occursIn}
 use Rattle.meaning.specs.WellFormed.{GoodKind, GoodTerm, anyVariable, GoodAtom, GoodTest, GoodGroup, HasCard, GoodSweep, GoodRule, GoodBook}
-use Rattle.files.specs.Numbers.{Refusal, CUT, MARK, PLACE, NOCARD, BARE, MANY, FIELD, LOOSE}
-use Rattle.files.specs.Marks.{KD, RU, BA, TE, HE, SW, EN}
-use Rattle.files.specs.Judge.{Verdict, accepted, refused, Judged, go, ended, stop, demand, byte, two, atEnd, afterRecord, judge}
+use Rattle.files.specs.Numbers.{Refusal, PLACE, NOCARD, BARE, MANY, FIELD}
+use Rattle.files.specs.Marks.{RU, BA, HE, SW, EN}
+use Rattle.files.specs.Judge.{accepted, Judged, go, ended, stop, demand, judge}
 use Rattle.files.specs.Board.{isEmpty}
 use Rattle.files.specs.InPlace.{comparisonOf}
 use Rattle.files.specs.Encode.{concatMap, classByte, encodeKind, encodeTerm, encodeAtom, comparisonNumber, encodeTest, encodeGroups, encodeSweep, encodeRule, encodeBook}
-use Rattle.files.specs.Book.{Open, noRule, inRule, inSweep, Reading, groups, withGroups, withSweep, sweepOpened, sweepsSoFar, rulesClosed, isInRule, hasCard, bodied, mostInGroup, isBound, term, terms, atom, fields, afterPlace, bookRecord, emptySweep, emptyRule, emptyReading, bookOf, judgeBook}
-use Rattle.book_encoding.specs.Lists.{absurd-bool, two-bytes, length-more}
+use Rattle.files.specs.Book.{Open, noRule, inRule, inSweep, Reading, groups, withGroups, withSweep, sweepOpened, sweepsSoFar, rulesClosed, isInRule, hasCard, bodied, mostInGroup, isBound, term, terms, atom, bookRecord, emptySweep, emptyRule, bookOf, judgeBook}
+use Rattle.book_encoding.specs.Lists.{Bytes, absurd-bool, two-bytes, length-more}
+use Rattle.book_encoding.specs.Accepted.{book-accepted}
 use Rattle.book_encoding.specs.Readings.{reading, closedBook, Bodied, card-had, moreBody, moreTests, moreHeads}
 
 -- ---- fields
@@ -238,8 +239,12 @@ ruleOf noRule = emptyRule
 ruleOf (inRule rule) = rule
 ruleOf (inSweep rule sweep) = withSweep rule sweep
 
+-- a rule's own groups, with these sweeps
+abbrev sweepsSet : Rule → List Sweep → Rule
+sweepsSet rule sweeps = record { body = rule .body; tests = rule .tests; heads = rule .heads; sweeps = sweeps }
+
 abbrev withSweeps : Rule → List Sweep → Rule
-withSweeps rule sweeps = record { body = rule .body; tests = rule .tests; heads = rule .heads; sweeps = rule .sweeps ++ sweeps }
+withSweeps rule sweeps = sweepsSet rule (rule .sweeps ++ sweeps)
 
 rules-with : (rules : List Rule) (now : Open) → isInRule now ≡ true → rulesClosed rules now ≡ rules ++ (ruleOf now ∷ [])
 rules-with rules noRule i = absurd-bool i
@@ -261,14 +266,14 @@ module _ (n : ℕ) (kinds : List Kind) (rules : List Rule) where
       → Accepts n book (reading kinds rules now) (concatMap encodeSweep sweeps ++ more)
   unfolding concatMap
   sweeps-accepted book now [] more i b size goods h =
-      h now i b (ap (λ (l : List Sweep). record { body = ruleOf now .body; tests = ruleOf now .tests; heads = ruleOf now .heads; sweeps = l }) (sym (append-nil (ruleOf now .sweeps))))
+      h now i b (ap (sweepsSet (ruleOf now)) (sym (append-nil (ruleOf now .sweeps))))
   sweeps-accepted book now (s ∷ sweeps) more i b size goods h =
       let rule = ruleOf now in
       let others = concatMap encodeSweep sweeps ++ more in
       let own = encodeGroups (s .body) (s .tests) (s .heads) in
       let others-read : Accepts n book (reading kinds rules (inSweep rule s)) others =
       sweeps-accepted book (inSweep rule s) sweeps more refl (goods .0 .bodied) (omega (arith, length-more (rule .sweeps) s)) (goods .1)
-      (λ now′ i′ b′ e. h now′ i′ b′ (e ∙ ap (λ (l : List Sweep). record { body = rule .body; tests = rule .tests; heads = rule .heads; sweeps = l }) (append-snoc (rule .sweeps) s sweeps))) in
+      (λ now′ i′ b′ e. h now′ i′ b′ (e ∙ ap (sweepsSet rule) (append-snoc (rule .sweeps) s sweeps))) in
       let own-read : Accepts n book (reading kinds rules (inSweep rule emptySweep)) (own ++ others) =
       groups-accepted n kinds rules book (aSweep rule) (s .body) (s .tests) (s .heads) others (goods .0 .group) (goods .0 .bodied) others-read in
       rw (append-assoc own (concatMap encodeSweep sweeps) more)
@@ -289,7 +294,7 @@ rules-accepted n kinds book before now (rule ∷ rules) b size goods e =
     let own = encodeGroups (rule .body) (rule .tests) (rule .heads) in
     let sweeps = concatMap encodeSweep (rule .sweeps) in
     let others = concatMap encodeRule rules ++ EN in
-    let own-rule : Rule = record { body = rule .body; tests = rule .tests; heads = rule .heads; sweeps = [] } in
+    let own-rule = sweepsSet rule [] in
     let others-read : (now′ : Open) → isInRule now′ ≡ true → Bodied kinds now′ → ruleOf now′ ≡ withSweeps own-rule (rule .sweeps) → Accepts n book (reading kinds done now′) others =
     λ now′ i′ b′ p.
     let closes : rulesClosed done now′ ≡ done ++ (rule ∷ []) = rules-with done now′ i′ ∙ ap (λ (r : Rule). done ++ (r ∷ [])) p in
@@ -313,6 +318,10 @@ book-encoded book good =
     all-steps (length file) book encodeKind GoodKind mostKinds (λ l. reading l [] noRule) (λ kind. omega arith) (kind-step (length file))
     [] (book .kinds) (concatMap encodeRule (book .rules) ++ EN) (omega (arith, good .kindsSize)) (good .kinds) rules-read (suc (length file)) (omega arith)
 
--- A book has one encoding, and an encoding has one book.
+-- A file of bytes is accepted exactly if it is the encoding of a good book: of the one that the judgement reads.
+pub book-file : (file : List ℕ) (book : Book) → Bytes file → (judgeBook file ≡ accepted book) ↔ (GoodBook book × (file ≡ encodeBook book))
+book-file file book bytes = (book-accepted file book bytes, λ h. ap judgeBook (h .1) ∙ book-encoded book (h .0))
+
+-- No two good books have one encoding.
 pub book-unique : (book book′ : Book) → GoodBook book → GoodBook book′ → encodeBook book ≡ encodeBook book′ → book ≡ book′
 book-unique book book′ good good′ e = cc (book-encoded book good, book-encoded book′ good′)

@@ -1,14 +1,14 @@
 -- What the laws of book files are made of: bytes, numbers of two bytes, marks, and lists that grow at their end.
-use Prim.Native.Nat.{ℕ, zero, suc, _+_, _*_, _/_, _%_, _<_, _≤_}
+use Prim.Native.Nat.{ℕ, suc, _+_, _*_, _/_, _%_, _<_}
 use native.Mathlib.Omega.{arith}
-use mathlib.Core.Path.{_≡_, refl, sym, ap, ap₂, _∙_}
+use mathlib.Core.Path.{_≡_, refl, sym, ap, _∙_}
 use mathlib.Core.Bool.{Bool, true, false, _&&_}
 use mathlib.Core.List.{List, [], _∷_, _++_, append-assoc, append-nil}
 use lib.ListN.{length}
 use lib.Dec.{eqb}
 use borrow.Author.Tests.{eqb-true}
 use Rattle.meaning.specs.Basics.{All}
-use Rattle.files.specs.Encode.{twoBytes, concatMap}
+use Rattle.files.specs.Encode.{concatMap}
 
 -- every number of the file is a byte
 abbrev pub Bytes : List ℕ → Type 0

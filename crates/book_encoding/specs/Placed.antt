@@ -1,10 +1,10 @@
 -- An accepted book file, read in place, gives the book that the judgement read. The readers go from place to place; at each place it is known
 -- what the file holds from there on.
-use Prim.Native.Nat.{ℕ, zero, suc, _+_, _*_, _/_, _%_, _<_, _≤_}
+use Prim.Native.Nat.{ℕ, zero, suc, _+_, _*_, _/_, _%_, _≤_}
 use native.Mathlib.Nat.{add-zero}
 use native.Mathlib.Omega.{arith}
 use mathlib.Core.Path.{_≡_, refl, sym, ap, ap₂, _∙_, subst}
-use mathlib.Core.Bool.{Bool, true, false, _&&_}
+use mathlib.Core.Bool.{Bool, true, false}
 use mathlib.Core.List.{List, [], _∷_, _++_, append-assoc}
 use lib.ListN.{length, getD, drop}
 use lib.Seq.{getD-drop, drop-drop}
@@ -16,8 +16,8 @@ use Rattle.meaning.specs.Rules.{Term, constant, variable, Atom, Comparison, equ
 use Rattle.meaning.specs.WellFormed.{GoodKind, anyVariable, GoodAtom, GoodTest, GoodGroup, GoodSweep, GoodRule, GoodBook}
 use Rattle.files.specs.Marks.{KD, RU, BA, TE, HE, SW, EN, isMark}
 use Rattle.files.specs.Judge.{accepted}
-use Rattle.files.specs.InPlace.{byteAt, twoAt, termOf, comparisonOf, Read, recordsAt, manyAt, termAt, kindAt, testAt, atomAt, groupsAt, ruleAt, kindsAt, bookAt}
-use Rattle.files.specs.Encode.{concatMap, classByte, encodeKind, tagOf, termValue, encodeTerm, encodeAtom, comparisonNumber, encodeTest, encodeGroups, encodeSweep, encodeRule, encodeBook}
+use Rattle.files.specs.InPlace.{byteAt, termOf, comparisonOf, Read, recordsAt, manyAt, termAt, kindAt, testAt, atomAt, groupsAt, ruleAt, kindsAt, bookAt}
+use Rattle.files.specs.Encode.{concatMap, classByte, tagOf, termValue, encodeTerm, encodeAtom, comparisonNumber, encodeTest, encodeGroups, encodeSweep, encodeRule, encodeBook}
 use Rattle.files.specs.Book.{judgeBook}
 use Rattle.book_encoding.specs.Lists.{Bytes, two-bytes}
 use Rattle.book_encoding.specs.Accepted.{book-accepted}
@@ -61,7 +61,8 @@ module _ (file : List ℕ) where
 
   kind-here : (kind : Kind) (p : ℕ) (post : List ℕ) → drop p file ≡ (classByte (kind .card) ∷ kind .arity ∷ []) ++ post → Gives (kindAt file p) kind post
   kind-here kind p post e = record {
-    value = ap₂ (λ (class arity : ℕ). record { card = eqb class 0; arity = arity }) (byte-here p _ e) (byte-on p 1 _ e) ∙ ap (λ (card : Bool). record { card = card; arity = kind .arity }) (known (kind .card));
+    value = ap₂ (λ (class arity : ℕ). record { card = eqb class 0; arity = arity }) (byte-here p _ e) (byte-on p 1 _ e)
+        ∙ ap (λ (card : Bool). record { card = card; arity = kind .arity }) (known (kind .card));
     next = on p 2 _ e;
   }
     where
@@ -72,7 +73,12 @@ module _ (file : List ℕ) where
   test-here : (t : Test) (p : ℕ) (post : List ℕ)
       → drop p file ≡ (comparisonNumber (t .comparison) ∷ (encodeTerm (t .left) ++ encodeTerm (t .right))) ++ post → Gives (testAt file p) t post
   test-here t p post e = record {
-    value = rw (byte-here p _ e, known (t .comparison), term-here (p + 1) (t .left) (encodeTerm (t .right) ++ post) (on p 1 _ e), term-here (p + 4) (t .right) post (on p 4 _ e));
+    value = rw (
+      byte-here p _ e,
+      known (t .comparison),
+      term-here (p + 1) (t .left) (encodeTerm (t .right) ++ post) (on p 1 _ e),
+      term-here (p + 4) (t .right) post (on p 4 _ e),
+    );
     next = on p 7 _ e;
   }
     where
@@ -95,7 +101,7 @@ module _ (file : List ℕ) where
 
 -- ---- records
 
--- the list starts with the mark
+-- the list does not start with the mark
 abbrev Not : List ℕ → List ℕ → Type 0
 Not mark l = isMark mark (getD l 0 0) (getD l 1 0) ≡ false
 
@@ -219,7 +225,8 @@ unfolding bookAt
 encoded-in-place book good = rw (kinds-here book good .value, rules-here book good)
 
 -- An accepted book file, read in place, gives the book that the judgement read, and its kinds.
-pub book-in-place : (file : List ℕ) (book : Book) → Bytes file → judgeBook file ≡ accepted book → (bookAt file ≡ book) × (kindsAt file .value ≡ book .kinds)
+pub book-in-place : (file : List ℕ) (book : Book) → Bytes file → judgeBook file ≡ accepted book
+    → (bookAt file ≡ book) × (kindsAt file .value ≡ book .kinds)
 book-in-place file book bytes e =
     let found = book-accepted file book bytes e in (
       ap bookAt (found .1) ∙ encoded-in-place book (found .0),

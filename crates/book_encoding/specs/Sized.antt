@@ -1,7 +1,6 @@
 -- The encoding of a good book consists of bytes, and is no longer than the longest book of document 01, 'Sizes'.
-use Prim.Native.Nat.{ℕ, zero, suc, _+_, _*_, _/_, _%_, _<_, _≤_}
+use Prim.Native.Nat.{ℕ, zero, suc, _*_, _<_, _≤_}
 use native.Mathlib.Omega.{arith}
-use mathlib.Core.Path.{_≡_, refl}
 use mathlib.Core.Bool.{Bool, true, false}
 use mathlib.Core.List.{List, [], _∷_, _++_}
 use lib.ListN.{length, length-append}
@@ -108,7 +107,8 @@ kind-bytes kind good = (omega arith, (omega arith, (class (kind .card), (omega a
 
 test-bytes : (bound : ℕ → Bool) (t : Test) → GoodTest bound t → Bytes (encodeTest t)
 test-bytes bound t good =
-    (omega arith, (omega arith, (number (t .comparison), bytes-append (encodeTerm (t .left)) (encodeTerm (t .right)) (term-bytes bound (t .left) (good .0)) (term-bytes bound (t .right) (good .1)))))
+    let terms = bytes-append (encodeTerm (t .left)) (encodeTerm (t .right)) (term-bytes bound (t .left) (good .0)) (term-bytes bound (t .right) (good .1)) in
+    (omega arith, (omega arith, (number (t .comparison), terms)))
   where
     number : (c : Comparison) → comparisonNumber c < 256
     number equal = omega arith
