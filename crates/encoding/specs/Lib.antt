@@ -1,0 +1,5 @@
+pub mod Bytes
+pub mod Judging
+pub mod Records
+pub mod Written
+pub mod Boards
