@@ -1,14 +1,14 @@
 -- Board files: a file is accepted exactly if it is the encoding of a good board; that board is the only one; and it is what is read in place.
 -- (Proved through rows as they stand in a file, `Written`.)
-use Prim.Native.Nat.{ℕ, zero, suc, _+_, _*_, _≤_, _<_}
+use Prim.Native.Nat.{ℕ, zero, suc, _+_, _*_, _≤_}
 use native.Mathlib.Omega.{arith}
 use mathlib.Core.Path.{_≡_, refl, sym, ap, ap₂, _∙_, subst}
 use mathlib.Core.Logic.{_↔_}
 use mathlib.Core.Bool.{Bool, true, false}
 use mathlib.Core.List.{List, [], _∷_, _++_, map}
-use lib.ListN.{length, getD, length-append, length-map}
+use lib.ListN.{length, length-append, length-map}
 use Rattle.meaning.specs.Basics.{All}
-use Rattle.meaning.specs.Facts.{Kind, Fact, Board, noKind, mostKinds, mostNumbers, mostCards, mostNotices, longestBoard, arityOf}
+use Rattle.meaning.specs.Facts.{Kind, Fact, Board, mostKinds, mostNumbers, longestBoard, arityOf}
 use Rattle.meaning.specs.WellFormed.{GoodKind, GoodFact, GoodBoard}
 use Rattle.files.specs.Marks.{CA, NO, EN}
 use Rattle.files.specs.Judge.{accepted}
@@ -16,7 +16,7 @@ use Rattle.files.specs.Board.{judgeBoard}
 use Rattle.files.specs.InPlace.{boardAt}
 use Rattle.files.specs.Encode.{twoBytes, concatMap, encodeRow, encodeBoard}
 use Rattle.encoding.specs.Bytes.{Bytes, bytes-apart, bytes-joined, said-length, said-spelled, said-limited, spelled-said, spelled-length, spelled-bytes}
-use Rattle.encoding.specs.Written.{Written, meant, written, fileOf, boardOf, Fits, accepted-rows, rows-accepted, rows-in-place}
+use Rattle.encoding.specs.Written.{Written, meant, written, fileOf, Fits, accepted-rows, rows-accepted, rows-in-place}
 
 -- ---- accepted: the rows of a file of bytes are the encodings of good facts
 

@@ -1,7 +1,7 @@
 -- What a byte is, and numbers of two bytes: a file is a list of bytes, and two bytes say one number and are said by it.
-use Prim.Native.Nat.{ℕ, zero, suc, _+_, _*_, _/_, _%_, _≤_, _<_}
+use Prim.Native.Nat.{ℕ, zero, suc, _+_, _*_, _/_, _%_, _<_}
 use native.Mathlib.Omega.{arith}
-use mathlib.Core.Path.{_≡_, refl, sym, ap, ap₂, _∙_}
+use mathlib.Core.Path.{_≡_, refl, ap, ap₂}
 use mathlib.Core.List.{List, [], _∷_, _++_}
 use lib.ListN.{length, getD}
 use Rattle.meaning.specs.Basics.{All}
@@ -16,6 +16,11 @@ Bytes file = All (λ b. b < 256) file
 pub bytes-of : (file : List ℕ) → ((i : ℕ) → getD file i 0 < 256) → Bytes file
 bytes-of [] h = tt
 bytes-of (b ∷ file) h = (h 0, bytes-of file (λ i. h (suc i)))
+
+pub byte-of : (file : List ℕ) → Bytes file → (i : ℕ) → getD file i 0 < 256
+byte-of [] b i = omega arith
+byte-of (x ∷ file) b zero = b .0
+byte-of (x ∷ file) b (suc i) = byte-of file (b .1) i
 
 pub bytes-apart : (xs ys : List ℕ) → Bytes (xs ++ ys) → Bytes xs × Bytes ys
 bytes-apart [] ys h = (tt, h)

@@ -3,13 +3,38 @@
 use Prim.Native.Nat.{ℕ, zero, suc, _+_, _*_}
 use native.Mathlib.Omega.{arith}
 use mathlib.Core.Path.{_≡_, refl, ap}
-use mathlib.Core.Bool.{Bool, true, false}
+use mathlib.Core.Bool.{Bool, true, false, _&&_, false≢true}
 use mathlib.Core.List.{List, [], _∷_, _++_}
 use lib.ListN.{length}
 use Rattle.files.specs.Numbers.{Refusal, CUT}
-use Rattle.files.specs.Judge.{Judged, stop, demand, byte, two}
+use Rattle.files.specs.Judge.{accepted, refused, Judged, stop, demand, byte}
 use Rattle.files.specs.Board.{numbers}
 use Rattle.encoding.specs.Bytes.{said}
+
+-- ---- tests that held, and answers that differ
+
+pub both : (p q : Bool) → (p && q) ≡ true → (p ≡ true) × (q ≡ true)
+both true q e = (refl, e)
+both false q e = absurd (false≢true e)
+
+pub all-four : (p q r s : Bool) → (p && q && r && s) ≡ true → (p ≡ true) × (q ≡ true) × (r ≡ true) × (s ≡ true)
+all-four p q r s e =
+    let (pqr, is) = both (p && q && r) s e in
+    let (pq, ir) = both (p && q) r pqr in
+    let (ip, iq) = both p q pq in
+    (ip, iq, ir, is)
+
+pub all-five : (p q r s t : Bool) → (p && q && r && s && t) ≡ true → (p ≡ true) × (q ≡ true) × (r ≡ true) × (s ≡ true) × (t ≡ true)
+all-five p q r s t e =
+    let (pqrs, it) = both (p && q && r && s) t e in
+    let (ip, iq, ir, is) = all-four p q r s pqrs in
+    (ip, iq, ir, is, it)
+
+-- a refusal is no acceptance
+pub not-accepted : {S : Type 0} {why : Refusal} {place : ℕ} {s : S} → refused why place ≡ accepted s → ⊥
+not-accepted {S} {why} {place} {s} e = let z : _≡_ {A = ℕ} 0 1 = cc in omega arith
+
+-- ---- one record
 
 module _ {S : Type 0} (P : Judged S → Type 0) (refusal : (why : Refusal) (place : ℕ) → P (stop why place)) where
   -- the test held

@@ -4,4 +4,6 @@ pub mod Records
 pub mod Written
 pub mod Boards
 pub mod Word
+pub mod StripWords
 pub mod Strips
+pub mod Steps

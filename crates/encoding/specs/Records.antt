@@ -4,15 +4,14 @@ use Prim.Native.Nat.{ℕ, zero, suc, _+_, _*_, _≤_}
 use native.Mathlib.Nat.{add-zero}
 use native.Mathlib.Omega.{arith}
 use mathlib.Core.Path.{_≡_, refl, sym, ap, ap₂, _∙_}
-use mathlib.Core.Bool.{Bool, true, false, _&&_}
+use mathlib.Core.Bool.{false}
 use mathlib.Core.List.{List, [], _∷_, _++_, map, append-assoc}
 use lib.ListN.{length, getD, drop}
 use lib.Seq.{getD-drop, drop-drop}
-use lib.Dec.{eqb}
 use borrow.Author.Tests.{eq-eqb}
-use Rattle.meaning.specs.Basics.{if_then_else_, All}
+use Rattle.meaning.specs.Basics.{All}
 use Rattle.files.specs.Marks.{isMark}
-use Rattle.files.specs.InPlace.{byteAt, twoAt, Read, prepend, recordsAt, manyAt}
+use Rattle.files.specs.InPlace.{byteAt, twoAt, Read, recordsAt, manyAt}
 use Rattle.files.specs.Encode.{concatMap}
 use Rattle.encoding.specs.Bytes.{said}
 

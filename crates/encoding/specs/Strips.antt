@@ -1,127 +1,73 @@
 -- Strip files: a file is accepted exactly if it is the encoding of a good strip; that strip is the only one; and it is what is read in place.
--- (Proved word by word, from what `Word` says of one.)
-use Prim.Native.Nat.{ℕ, zero, suc, _+_, _*_, _/_, _%_, _≤_, _<_}
-use native.Mathlib.Nat.{add-zero, zero-add, add-suc}
+-- (Proved word by word, `StripWords`; here the file's length joins in.)
+use Prim.Native.Nat.{ℕ, _+_, _*_, _/_, _%_, _≤_, _<_}
+use native.Mathlib.Nat.{zero-add}
 use native.Mathlib.Omega.{arith}
-use mathlib.Core.Path.{_≡_, refl, sym, ap, ap₂, _∙_, subst}
-use mathlib.Core.Logic.{_↔_, _⊎_, inl, inr}
-use mathlib.Core.Bool.{Bool, true, false, not, _&&_, _||_, false≢true}
-use mathlib.Core.Option.{Option, none, some}
+use mathlib.Core.Path.{_≡_, refl, sym, ap, _∙_, subst}
+use mathlib.Core.Logic.{_↔_}
+use mathlib.Core.Bool.{Bool, true, false, not, _||_}
+use mathlib.Core.Option.{some}
 use mathlib.Core.List.{List, [], _∷_, _++_, map}
-use lib.ListN.{length, getD, drop, getElem?, length-append, length-map, drop-of-length-le}
-use lib.Seq.{drop-cons, drop-at}
-use lib.Dec.{eqb, leb, ltb}
-use borrow.Author.Tests.{ltb-false, eqb-true, eqb-false, not-false, lt-ltb, le-ltb, ne-eqb}
+use lib.ListN.{length, getElem?, length-append}
+use lib.Dec.{ltb}
+use borrow.Author.Tests.{ltb-false, eqb-true, eqb-false, le-ltb, ne-eqb}
 use Rattle.meaning.specs.Basics.{if_then_else_, All}
-use Rattle.meaning.specs.Facts.{Kind, mostKinds, longestStrip}
-use Rattle.meaning.specs.Words.{Word, KIND, OPEN, SEEK, BIND, SAME, LIT, TEST, KEEP, PUT, ARG, JUMP, FIRE, QUIET}
+use Rattle.meaning.specs.Facts.{Kind, mostKinds, numberLimit, longestStrip}
+use Rattle.meaning.specs.Words.{Word}
 use Rattle.meaning.specs.WellFormed.{GoodKind, GoodWord, EndsWell, GoodStrip}
 use Rattle.meaning.specs.Translation.{kindWord}
 use Rattle.files.specs.Numbers.{STRIP}
-use Rattle.files.specs.Judge.{Verdict, accepted, refused}
-use Rattle.files.specs.InPlace.{byteAt, manyAt}
-use Rattle.files.specs.Strip.{Fields, wordBytes, fieldsAt, leftOf, wordOf, wordsAt, Earlier, isZero, wordIsGood, mayBeLast, earlierThanNext, wordThen, judgeWords, judgeStrip}
+use Rattle.files.specs.Judge.{accepted, refused}
+use Rattle.files.specs.Strip.{fieldsAt, wordOf, wordsAt, Earlier, isZero, judgeWords, judgeStrip}
 use Rattle.files.specs.Encode.{concatMap, encodeWord, encodeStrip}
-use Rattle.encoding.specs.Bytes.{Bytes, low-of, high-of, within-limit}
-use Rattle.encoding.specs.Records.{byte-here, byte-further, further}
-use Rattle.encoding.specs.Word.{spell, Says, KindHere, WordHere, word-says, fieldsOf, kind-read, Reads, word-read}
+use Rattle.encoding.specs.Bytes.{Bytes, bytes-joined}
+use Rattle.encoding.specs.Judging.{not-accepted}
+use Rattle.encoding.specs.Word.{word-length, word-is-bytes, kind-is-bytes}
+use Rattle.encoding.specs.StripWords.{wordAt, many-at, words-in-place, words-count, Held, Ends, words-held, words-judged}
 
--- ---- tests
+-- ---- the length, and in place
 
--- the word's test held, and the words after it are accepted
-record OneMore (t : Bool) (w : Word) (v : Verdict (List Word)) (words : List Word) : Type 0 where
-  held : t ≡ true
-  more : List Word
-  rest : v ≡ accepted more
-  are : words ≡ w ∷ more
+-- nothing stands before the first word
+abbrev nothing : Earlier
+nothing = record { kinds = 0; others = false }
 
-one-more : (t : Bool) (i : ℕ) (w : Word) (v : Verdict (List Word)) (words : List Word) → wordThen t i w v ≡ accepted words → OneMore t w v words
-one-more false i w v words e = let z : _≡_ {A = ℕ} 0 1 = cc in let bad : ⊥ = omega arith in absurd bad
-one-more true i w (refused why place) words e = let z : _≡_ {A = ℕ} 0 1 = cc in let bad : ⊥ = omega arith in absurd bad
-one-more true i w (accepted more) words e = record { held = refl; more = more; rest = refl; are = cc }
+-- an accepted file's length, and how its words are judged then
+record Measured (file : List ℕ) (words : List Word) : Type 0 where
+  not-empty : 0 < length file
+  most : length file ≤ longestStrip
+  eights : length file % 8 ≡ 0
+  judged : judgeWords file (length file / 8) (length file / 8) 0 nothing ≡ accepted words
 
-both : (s t : Bool) → (s && t) ≡ true → (s ≡ true) × (t ≡ true)
-both true t e = (refl, e)
-both false t e = absurd (false≢true e)
-
--- ---- the length
-
-size-accepted : (file : List ℕ) (words : List Word) → judgeStrip file ≡ accepted words
-    → (0 < length file) × (length file ≤ longestStrip) × (length file % 8 ≡ 0)
-    × (judgeWords file (length file / 8) (length file / 8) 0 (record { kinds = 0; others = false }) ≡ accepted words)
+measured : (file : List ℕ) (words : List Word) → judgeStrip file ≡ accepted words → Measured file words
 unfolding judgeStrip
-size-accepted file words e = cases (isZero (length file)) (ltb longestStrip (length file)) (isZero (length file % 8)) refl refl refl e
+measured file words e = cases (isZero (length file)) (ltb longestStrip (length file)) (isZero (length file % 8)) refl refl refl e
   where
     cases : (p q r : Bool) → isZero (length file) ≡ p → ltb longestStrip (length file) ≡ q → isZero (length file % 8) ≡ r
         → (if p || q || not r then refused STRIP 0
-        else judgeWords file (length file / 8) (length file / 8) 0 (record { kinds = 0; others = false })) ≡ accepted words
-        → (0 < length file) × (length file ≤ longestStrip) × (length file % 8 ≡ 0)
-        × (judgeWords file (length file / 8) (length file / 8) 0 (record { kinds = 0; others = false }) ≡ accepted words)
-    cases true q r a b c e = let z : _≡_ {A = ℕ} 0 1 = cc in let bad : ⊥ = omega arith in absurd bad
-    cases false true r a b c e = let z : _≡_ {A = ℕ} 0 1 = cc in let bad : ⊥ = omega arith in absurd bad
-    cases false false false a b c e = let z : _≡_ {A = ℕ} 0 1 = cc in let bad : ⊥ = omega arith in absurd bad
+        else judgeWords file (length file / 8) (length file / 8) 0 nothing) ≡ accepted words → Measured file words
+    cases true q r a b c e = absurd (not-accepted e)
+    cases false true r a b c e = absurd (not-accepted e)
+    cases false false false a b c e = absurd (not-accepted e)
     cases false false true a b c e =
-        let some′ : length file ≡ 0 → ⊥ = eqb-false (length file) 0 a in
-        (omega arith, ltb-false longestStrip (length file) b, eqb-true (length file % 8) 0 c, e)
-
--- ---- in place
-
--- the word at place p
-abbrev wordAt : List ℕ → ℕ → Word
-wordAt file p = wordOf (fieldsAt file p)
-
-many-length : {A : Type 0} (item : ℕ → A) (left p : ℕ) → length (manyAt item 8 left p) ≡ left
-unfolding manyAt
-many-length item zero p = refl
-many-length item (suc left) p = ap suc (many-length item left (p + 8))
-
-many-at : {A : Type 0} (item : ℕ → A) (left p i : ℕ) → i < left → getElem? (manyAt item 8 left p) i ≡ some (item (p + 8 * i))
-unfolding manyAt
-many-at item zero p i h = let bad : ⊥ = omega arith in absurd bad
-many-at item (suc left) p zero h = ap (λ (q : ℕ). some (item q)) (omega arith)
-many-at item (suc left) p (suc i) h = many-at item left (p + 8) i (omega arith) ∙ ap (λ (q : ℕ). some (item q)) (omega arith)
-
-module _ (file : List ℕ) (size : ℕ) where
-  -- one word more
-  abbrev fits : ℕ → ℕ → Earlier → Bool
-  fits left i before = wordIsGood size before (fieldsAt file (8 * i)) && mayBeLast (suc left) (fieldsAt file (8 * i))
-
-  abbrev next : ℕ → Earlier → Earlier
-  next i before = earlierThanNext before (fieldsAt file (8 * i))
-
-  step-accepted : (left i : ℕ) (before : Earlier) (words : List Word) → judgeWords file size (suc left) i before ≡ accepted words
-      → OneMore (fits left i before) (wordAt file (8 * i)) (judgeWords file size left (suc i) (next i before)) words
-  unfolding judgeWords
-  step-accepted left i before words e =
-      one-more (fits left i before) i (wordAt file (8 * i)) (judgeWords file size left (suc i) (next i before)) words e
-
-  words-in-place : (left i : ℕ) (before : Earlier) (words : List Word) → judgeWords file size left i before ≡ accepted words
-      → manyAt (wordAt file) 8 left (8 * i) ≡ words
-  unfolding judgeWords manyAt
-  words-in-place zero i before words e = cc
-  words-in-place (suc left) i before words e =
-      let o = step-accepted left i before words e in
-      let ih = words-in-place left (suc i) (next i before) (o .more) (o .rest) in
-      let place : 8 * i + 8 ≡ 8 * suc i = omega arith in
-      ap (λ (l : List Word). wordAt file (8 * i) ∷ l) (ap (manyAt (wordAt file) 8 left) place ∙ ih) ∙ sym (o .are)
+        let some-bytes : length file ≡ 0 → ⊥ = eqb-false (length file) 0 a in
+        record { not-empty = omega arith; most = ltb-false longestStrip (length file) b; eights = eqb-true (length file % 8) 0 c; judged = e }
 
 -- The words that are read in place of an accepted file are those that it is accepted as.
 pub strip-in-place : (file : List ℕ) (words : List Word) → judgeStrip file ≡ accepted words → wordsAt file ≡ words
 unfolding wordsAt
 strip-in-place file words e =
-    words-in-place file (length file / 8) (length file / 8) 0 (record { kinds = 0; others = false }) words (size-accepted file words e .3)
+    words-in-place file (length file / 8) (length file / 8) 0 nothing words (measured file words e .judged)
 
 -- An accepted file has eight bytes for each word.
 pub strip-size : (file : List ℕ) (words : List Word) → judgeStrip file ≡ accepted words → length file ≡ 8 * length words
-unfolding wordsAt
 strip-size file words e =
-    let h = size-accepted file words e in
-    let n : length words ≡ length file / 8 = ap length (sym (strip-in-place file words e)) ∙ many-length (wordAt file) (length file / 8) 0 in
-    omega (arith, h .2)
+    let m = measured file words e in
+    let n = words-count file (length file / 8) (length file / 8) 0 nothing words (m .judged) in
+    omega (arith, m .eights)
 
 -- It has a word at least.
 pub strip-not-empty : (file : List ℕ) (words : List Word) → judgeStrip file ≡ accepted words → 0 < length words
-strip-not-empty file words e = omega (arith, size-accepted file words e .0, strip-size file words e)
+strip-not-empty file words e = omega (arith, measured file words e .not-empty, strip-size file words e)
 
 -- Word i is read at byte 8i.
 pub strip-word-in-place : (file : List ℕ) (words : List Word) (i : ℕ) → judgeStrip file ≡ accepted words → i < length words
@@ -132,138 +78,13 @@ strip-word-in-place file words i e h =
     ∙ many-at (wordAt file) (length file / 8) 0 i (omega (arith, strip-size file words e))
     ∙ ap (λ (q : ℕ). some (wordAt file q)) (zero-add (8 * i))
 
--- ---- accepted: the words are good, and the bytes are theirs
-
-byte-of : (file : List ℕ) → Bytes file → (i : ℕ) → byteAt file i < 256
-byte-of [] b i = omega arith
-byte-of (x ∷ file) b zero = b .0
-byte-of (x ∷ file) b (suc i) = byte-of file (b .1) i
-
--- the eight bytes at place p are those of the fields there
-word-bytes : (file : List ℕ) (p : ℕ) → Bytes file → p + 8 ≤ length file → drop p file ≡ spell (fieldsAt file p) ++ drop (p + 8) file
-word-bytes file p b h =
-    let five : p + 4 + 1 ≡ p + 5 = omega arith in
-    let seven : p + 6 + 1 ≡ p + 7 = omega arith in
-    let first : drop p file ≡ drop (p + 0) file = ap (λ (q : ℕ). drop q file) (sym (add-zero p)) in
-    let code : byteAt file p ≡ byteAt file (p + 0) = ap (byteAt file) (sym (add-zero p)) in
-    cc (
-      one 0 (omega arith),
-      one 1 (omega arith),
-      one 2 (omega arith),
-      one 3 (omega arith),
-      one 4 (omega arith),
-      one 5 (omega arith),
-      one 6 (omega arith),
-      one 7 (omega arith),
-      low-of (byteAt file (p + 4)) (byteAt file (p + 4 + 1)) (byte-of file b (p + 4)),
-      high-of (byteAt file (p + 4)) (byteAt file (p + 4 + 1)) (byte-of file b (p + 4)),
-      low-of (byteAt file (p + 6)) (byteAt file (p + 6 + 1)) (byte-of file b (p + 6)),
-      high-of (byteAt file (p + 6)) (byteAt file (p + 6 + 1)) (byte-of file b (p + 6)),
-    )
-  where
-    one : (k : ℕ) → p + k < length file → drop (p + k) file ≡ byteAt file (p + k) ∷ drop (p + suc k) file
-    one k l = drop-cons file (p + k) 0 l ∙ ap (λ (q : ℕ). byteAt file (p + k) ∷ drop q file) (sym (add-suc p k))
-
--- what words are good after those before
-record Held (size : ℕ) (before : Earlier) (words : List Word) : Type 0 where
-  kinds : List Kind
-  others : List Word
-  split : words ≡ map kindWord kinds ++ others
-  late : before .others ≡ true → kinds ≡ []
-  room : before .kinds ≤ mostKinds → before .kinds + length kinds ≤ mostKinds
-  goodKinds : All GoodKind kinds
-  goodOthers : All (GoodWord (before .kinds + length kinds) size) others
-
-module _ (size : ℕ) (before : Earlier) (w : Word) (words : List Word) where
-  kind-held : (code : ℕ) → KindHere before code w → Held size (record { kinds = suc (before .kinds); others = before .others }) words
-      → Held size before (w ∷ words)
-  kind-held code k h =
-      let sum : suc (before .kinds) + length (h .kinds) ≡ before .kinds + suc (length (h .kinds)) = omega arith in
-      record {
-        kinds = k .kind ∷ h .kinds;
-        others = h .others;
-        split = ap₂ _∷_ (k .is) (h .split);
-        late = λ q. absurd (false≢true (sym (k .first) ∙ q));
-        room = λ r. omega (arith, h .room (k .room));
-        goodKinds = (k .good, h .goodKinds);
-        goodOthers = rw sum at (h .goodOthers);
-      }
-
-  word-held : (code : ℕ) → WordHere size before code w → Held size (record { kinds = before .kinds; others = true }) words
-      → Held size before (w ∷ words)
-  word-held code k h =
-      let none′ : h .kinds ≡ [] = h .late refl in
-      record {
-        kinds = [];
-        others = w ∷ h .others;
-        split = ap (λ (l : List Word). w ∷ l) (h .split ∙ rw none′);
-        late = λ q. refl;
-        room = λ r. omega arith;
-        goodKinds = tt;
-        goodOthers = (rw (add-zero (before .kinds)) (k .good), rw none′ at (h .goodOthers));
-      }
-
-  here-held : (f : Fields) → Says size before f w → Held size (earlierThanNext before f) words → Held size before (w ∷ words)
-  here-held f s h = cases (s .here)
-    where
-      cases : KindHere before (f .code) w ⊎ WordHere size before (f .code) w → Held size before (w ∷ words)
-      cases (inl k) = kind-held (f .code) k (rw (k .code-is) at h)
-      cases (inr k) = word-held (f .code) k (rw (k .code-is) at h)
-
--- the last of these words may be the last
-abbrev Ends : List Word → Type 0
-Ends [] = Unit {0}
-Ends (w ∷ words) = EndsWell (w ∷ words)
-
-ends-more : (f : Fields) (w : Word) (words : List Word) (left : ℕ) → length words ≡ left → mayBeLast (suc left) f ≡ true
-    → (leb 10 (f .code) ≡ true → EndsWell (w ∷ [])) → Ends words → EndsWell (w ∷ words)
-ends-more f w [] zero l m e h = e m
-ends-more f w [] (suc left) l m e h = let bad : ⊥ = omega arith in absurd bad
-ends-more f w (w′ ∷ more) left l m e h = h
-
-module _ (file : List ℕ) (size : ℕ) (b : Bytes file) where
-  says : (i : ℕ) (before : Earlier) → wordIsGood size before (fieldsAt file (8 * i)) ≡ true
-      → Says size before (fieldsAt file (8 * i)) (wordAt file (8 * i))
-  says i before e =
-      word-says size before (fieldsAt file (8 * i)) (byte-of file b (8 * i + 2))
-      (within-limit (byteAt file (8 * i + 2)) (byteAt file (8 * i + 3)) (byte-of file b (8 * i + 2)) (byte-of file b (8 * i + 3)))
-      (within-limit (byteAt file (8 * i + 4)) (byteAt file (8 * i + 4 + 1)) (byte-of file b (8 * i + 4)) (byte-of file b (8 * i + 4 + 1))) e
-
-  words-held : (left i : ℕ) (before : Earlier) (words : List Word) → 8 * (i + left) ≡ length file → judgeWords file size left i before ≡ accepted words
-      → Held size before words × (drop (8 * i) file ≡ encodeStrip words) × Ends words
-  unfolding judgeWords encodeStrip concatMap
-  words-held zero i before words n e =
-      let nil : words ≡ [] = cc in
-      let none′ : Held size before [] = record {
-        kinds = [];
-        others = [];
-        split = refl;
-        late = λ q. refl;
-        room = λ r. omega arith;
-        goodKinds = tt;
-        goodOthers = tt;
-      } in
-      rw nil (none′, drop-of-length-le file {i = 8 * i} (omega arith), tt)
-  words-held (suc left) i before words n e =
-      let o = step-accepted file size left i before words e in
-      let f = fieldsAt file (8 * i) in
-      let (t, m) = both (wordIsGood size before f) (mayBeLast (suc left) f) (o .held) in
-      let s = says i before t in
-      let (h, d, l) = words-held left (suc i) (next file size i before) (o .more) (omega arith) (o .rest) in
-      let place : 8 * i + 8 ≡ 8 * suc i = omega arith in
-      let many : length (o .more) ≡ left
-      = ap length (sym (words-in-place file size left (suc i) (next file size i before) (o .more) (o .rest))) ∙ many-length (wordAt file) left (8 * suc i) in
-      rw (o .are) (
-        here-held size before (wordOf f) (o .more) f s h,
-        word-bytes file (8 * i) b (omega arith) ∙ ap₂ _++_ (sym (s .bytes)) (ap (λ (q : ℕ). drop q file) place ∙ d),
-        ends-more f (wordOf f) (o .more) left many m (s .ends) l,
-      )
+-- ---- accepted
 
 all-end : (words : List Word) → 0 < length words → Ends words → EndsWell words
 all-end [] h e = let bad : ⊥ = omega arith in absurd bad
 all-end (w ∷ words) h e = e
 
-held-good : (size : ℕ) (words : List Word) → Held size (record { kinds = 0; others = false }) words → size ≡ length words → EndsWell words
+held-good : (size : ℕ) (words : List Word) → Held size nothing words → size ≡ length words → EndsWell words
     → 8 * size ≤ longestStrip → GoodStrip words
 held-good size words h n l m = record {
   kinds = h .kinds;
@@ -280,28 +101,13 @@ held-good size words h n l m = record {
 pub strip-accepted : (file : List ℕ) (words : List Word) → Bytes file → judgeStrip file ≡ accepted words
     → GoodStrip words × (file ≡ encodeStrip words)
 strip-accepted file words b e =
-    let (some′, most, eights, j) = size-accepted file words e in
+    let m = measured file words e in
     let n = strip-size file words e in
     let size : length file / 8 ≡ length words = omega arith in
-    let (h, d, l) = words-held file (length file / 8) b (length file / 8) 0 (record { kinds = 0; others = false }) words (omega arith) j in
-    (held-good (length file / 8) words h size (all-end words (strip-not-empty file words e) l) (omega arith), d)
+    let (h, d, l) = words-held file (length file / 8) b (length file / 8) 0 nothing words (omega (arith, m .eights)) (m .judged) in
+    (held-good (length file / 8) words h size (all-end words (strip-not-empty file words e) l) (omega (arith, m .most)), d)
 
--- ---- encoded: the words are judged good
-
-word-length : (w : Word) → length (encodeWord w) ≡ 8
-word-length (KIND card arity) = refl
-word-length (OPEN c) = refl
-word-length (SEEK c k target) = refl
-word-length (BIND c i x) = refl
-word-length (SAME c i x target) = refl
-word-length (LIT c i v target) = refl
-word-length (TEST t target) = refl
-word-length KEEP = refl
-word-length (PUT k) = refl
-word-length (ARG i t) = refl
-word-length (JUMP target) = refl
-word-length (FIRE r) = refl
-word-length QUIET = refl
+-- ---- encoded
 
 -- Each word has eight bytes.
 pub strip-length : (words : List Word) → length (encodeStrip words) ≡ 8 * length words
@@ -309,74 +115,14 @@ unfolding encodeStrip concatMap
 strip-length [] = refl
 strip-length (w ∷ words) = omega (arith, strip-length words, word-length w, length-append (encodeWord w) (concatMap encodeWord words))
 
-ends-tail : (w : Word) (words : List Word) → EndsWell (w ∷ words) → Ends words
-ends-tail w [] e = tt
-ends-tail w (w′ ∷ words) e = e
-
-may-be-last : (f : Fields) (w : Word) (words : List Word) → EndsWell (w ∷ words) → (EndsWell (w ∷ []) → leb 10 (f .code) ≡ true)
-    → mayBeLast (suc (length words)) f ≡ true
-may-be-last f w [] e h = h e
-may-be-last f w (w′ ∷ words) e h = rw (lt-ltb 1 (suc (suc (length words))) (omega arith))
-
-module _ (file : List ℕ) (size : ℕ) where
-  fields-there : (p : ℕ) (w : Word) (rest : List ℕ) → drop p file ≡ encodeWord w ++ rest → fieldsAt file p ≡ fieldsOf w rest
-  fields-there p w rest e =
-      let at : (k : ℕ) → byteAt file (p + k) ≡ byteAt (encodeWord w ++ rest) k = byte-further file p (encodeWord w ++ rest) e in
-      let five : p + 4 + 1 ≡ p + 5 = omega arith in
-      let seven : p + 6 + 1 ≡ p + 7 = omega arith in
-      rw (five, seven, byte-here file p (encodeWord w ++ rest) e, at 1, at 2, at 3, at 4, at 5, at 6, at 7)
-
-  -- a word that is there and is good is judged, then the words after it
-  step-judged : (i : ℕ) (before later : Earlier) (w : Word) (words : List Word) → drop (8 * i) file ≡ encodeStrip (w ∷ words) → EndsWell (w ∷ words)
-      → wordOf (fieldsOf w (encodeStrip words)) ≡ w → wordIsGood size before (fieldsOf w (encodeStrip words)) ≡ true
-      → earlierThanNext before (fieldsOf w (encodeStrip words)) ≡ later → (EndsWell (w ∷ []) → leb 10 (fieldsOf w (encodeStrip words) .code) ≡ true)
-      → (drop (8 * suc i) file ≡ encodeStrip words → judgeWords file size (length words) (suc i) later ≡ accepted words)
-      → judgeWords file size (suc (length words)) i before ≡ accepted (w ∷ words)
-  unfolding judgeWords encodeStrip concatMap
-  step-judged i before later w words e l word good next′ last more =
-      let f = fieldsOf w (encodeStrip words) in
-      let place : 8 * suc i ≡ 8 * i + 8 = omega arith in
-      let rest : drop (8 * suc i) file ≡ encodeStrip words
-      = ap (λ (q : ℕ). drop q file) place ∙ further file (8 * i) (encodeWord w ++ encodeStrip words) e 8
-      ∙ drop-at (encodeWord w) (encodeStrip words) 8 (word-length w) in
-      subst
-      (λ (f : Fields).
-      wordThen (wordIsGood size before f && mayBeLast (suc (length words)) f) i (wordOf f) (judgeWords file size (length words) (suc i) (earlierThanNext before f))
-      ≡ accepted (w ∷ words))
-      (sym (fields-there (8 * i) w (encodeStrip words) e))
-      (rw (good, may-be-last f w words l last, word, next′, more rest))
-
-  others-judged : (words : List Word) (i : ℕ) (before : Earlier) → All (GoodWord (before .kinds) size) words → drop (8 * i) file ≡ encodeStrip words
-      → Ends words → judgeWords file size (length words) i before ≡ accepted words
-  unfolding judgeWords
-  others-judged [] i before g e l = refl
-  others-judged (w ∷ words) i before g e l =
-      let r = word-read size before (encodeStrip words) w (g .0) in
-      let later : Earlier = record { kinds = before .kinds; others = true } in
-      step-judged i before later w words e l (r .word) (r .good) (rw (r .code-is)) (r .ends)
-      (λ d. others-judged words (suc i) later (g .1) d (ends-tail w words l))
-
-  words-judged : (kinds : List Kind) (others : List Word) (i : ℕ) (before : Earlier) → before .others ≡ false
-      → before .kinds + length kinds ≤ mostKinds → All GoodKind kinds → All (GoodWord (before .kinds + length kinds) size) others
-      → drop (8 * i) file ≡ encodeStrip (map kindWord kinds ++ others) → Ends (map kindWord kinds ++ others)
-      → judgeWords file size (length (map kindWord kinds ++ others)) i before ≡ accepted (map kindWord kinds ++ others)
-  words-judged [] others i before first m g k e l = others-judged others i before (rw (add-zero (before .kinds)) at k) e l
-  words-judged (kind ∷ kinds) others i before first m g k e l =
-      let words = map kindWord kinds ++ others in
-      let (word, good) = kind-read size before (encodeStrip words) kind (g .0) (omega arith) first in
-      let later : Earlier = record { kinds = suc (before .kinds); others = before .others } in
-      let sum : before .kinds + suc (length kinds) ≡ suc (before .kinds) + length kinds = omega arith in
-      step-judged i before later (kindWord kind) words e l word good refl (λ q. absurd q)
-      (λ d. words-judged kinds others (suc i) later first (omega arith) (g .1) (rw sum at k) d (ends-tail (kindWord kind) words l))
-
 ends-some : (words : List Word) → EndsWell words → (0 < length words) × Ends words
 ends-some [] e = absurd e
 ends-some (w ∷ words) e = (omega arith, e)
 
 size-judged : (file : List ℕ) (size : ℕ) → length file ≡ 8 * size → 0 < size → 8 * size ≤ longestStrip
-    → judgeStrip file ≡ judgeWords file size size 0 (record { kinds = 0; others = false })
+    → judgeStrip file ≡ judgeWords file size size 0 nothing
 unfolding judgeStrip
-size-judged file size n some′ most =
+size-judged file size n not-empty most =
     let eights : length file % 8 ≡ 0 = omega arith in
     let size′ : length file / 8 ≡ size = omega arith in
     rw (ne-eqb (length file) 0 (λ q. omega arith), le-ltb longestStrip (length file) (omega arith), eights, size′)
@@ -387,9 +133,9 @@ split-encoded : (kinds : List Kind) (others : List Word) → length kinds ≤ mo
     → judgeStrip (encodeStrip (map kindWord kinds ++ others)) ≡ accepted (map kindWord kinds ++ others)
 split-encoded kinds others m k g e n =
     let words = map kindWord kinds ++ others in
-    let (some′, l) = ends-some words e in
-    size-judged (encodeStrip words) (length words) (strip-length words) some′ n
-    ∙ words-judged (encodeStrip words) (length words) kinds others 0 (record { kinds = 0; others = false }) refl (omega arith) k
+    let (not-empty, l) = ends-some words e in
+    size-judged (encodeStrip words) (length words) (strip-length words) not-empty n
+    ∙ words-judged (encodeStrip words) (length words) kinds others 0 nothing refl (omega arith) k
     (rw (zero-add (length kinds)) g) refl l
 
 -- The encoding of a good strip is accepted, as that strip.
@@ -412,3 +158,27 @@ strip-unique one other g h e =
     let p = strip-encoded one g in
     let q = strip-encoded other h in
     cc
+
+-- ---- bytes
+
+others-bytes : (kinds size : ℕ) (words : List Word) → kinds ≤ mostKinds → size ≤ numberLimit → All (GoodWord kinds size) words
+    → Bytes (encodeStrip words)
+unfolding encodeStrip concatMap
+others-bytes kinds size [] k n g = tt
+others-bytes kinds size (w ∷ words) k n g =
+    bytes-joined (encodeWord w) (concatMap encodeWord words) (word-is-bytes kinds size w (omega arith) n (g .0)) (others-bytes kinds size words k n (g .1))
+
+words-bytes : (kinds : List Kind) (others : List Word) → All GoodKind kinds → Bytes (encodeStrip others)
+    → Bytes (encodeStrip (map kindWord kinds ++ others))
+unfolding encodeStrip concatMap
+words-bytes [] others g b = b
+words-bytes (kind ∷ kinds) others g b =
+    bytes-joined (encodeWord (kindWord kind)) (concatMap encodeWord (map kindWord kinds ++ others)) (kind-is-bytes (kind .card) (kind .arity) (g .0))
+    (words-bytes kinds others (g .1) b)
+
+-- The encoding of a good strip is bytes.
+pub strip-bytes : (words : List Word) → GoodStrip words → Bytes (encodeStrip words)
+strip-bytes words g =
+    subst (λ (l : List Word). Bytes (encodeStrip l)) (sym (g .split))
+    (words-bytes (g .kinds) (g .others) (g .goodKinds)
+    (others-bytes (length (g .kinds)) (length words) (g .others) (g .kindsSize) (omega (arith, g .size)) (g .goodOthers)))

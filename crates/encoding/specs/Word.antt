@@ -1,13 +1,13 @@
 -- One word: fields that are judged good are those of the word that they say, and the fields of a good word are judged good and say it.
 use Prim.Native.Nat.{ℕ, zero, suc, _+_, _*_, _/_, _%_, _≤_, _<_}
 use native.Mathlib.Omega.{arith}
-use mathlib.Core.Path.{_≡_, refl, sym, ap, ap₂, _∙_}
+use mathlib.Core.Path.{_≡_, refl, sym, ap, _∙_}
 use mathlib.Core.Logic.{_⊎_, inl, inr}
-use mathlib.Core.Bool.{Bool, true, false, not, _&&_, _||_, false≢true}
+use mathlib.Core.Bool.{Bool, true, false, _||_, false≢true}
 use mathlib.Core.List.{List, [], _∷_, _++_}
-use lib.ListN.{length, getD}
+use lib.ListN.{length}
 use lib.Dec.{eqb, leb, ltb}
-use borrow.Author.Tests.{ltb-true, ltb-false, leb-true, eqb-true, eqb-false, not-true, lt-ltb, le-leb, ne-eqb}
+use borrow.Author.Tests.{ltb-true, ltb-false, leb-true, eqb-true, not-true, lt-ltb, le-leb, ne-eqb}
 use Rattle.meaning.specs.Basics.{if_then_else_}
 use Rattle.meaning.specs.Facts.{Kind, mostKinds, mostRules, mostNumbers, variables, numberLimit}
 use Rattle.meaning.specs.Rules.{Term, constant, variable, Comparison, equal, unequal, less, lessOrEqual, Test}
@@ -17,22 +17,8 @@ use Rattle.meaning.specs.Translation.{kindWord}
 use Rattle.files.specs.InPlace.{termOf, comparisonOf}
 use Rattle.files.specs.Strip.{Fields, fieldsAt, leftTag, rightTag, leftOf, wordOf, Earlier, isZero, isTerm, wordIsGood}
 use Rattle.files.specs.Encode.{classByte, tagOf, termValue, comparisonNumber, testCode, wordOfBytes, encodeWord}
-use Rattle.encoding.specs.Bytes.{number-of, low-of, high-of}
-
--- ---- tests
-
-parts2 : (p q : Bool) → (p && q) ≡ true → (p ≡ true) × (q ≡ true)
-parts2 true q e = (refl, e)
-parts2 false q e = absurd (false≢true e)
-
-parts4 : (p q r s : Bool) → (p && q && r && s) ≡ true → (p ≡ true) × (q ≡ true) × (r ≡ true) × (s ≡ true)
-parts4 true true r s e = let h = parts2 r s e in (refl, refl, h .0, h .1)
-parts4 true false r s e = absurd (false≢true e)
-parts4 false q r s e = absurd (false≢true e)
-
-parts5 : (p q r s t : Bool) → (p && q && r && s && t) ≡ true → (p ≡ true) × (q ≡ true) × (r ≡ true) × (s ≡ true) × (t ≡ true)
-parts5 true q r s t e = let h = parts4 q r s t e in (refl, h .0, h .1, h .2, h .3)
-parts5 false q r s t e = absurd (false≢true e)
+use Rattle.encoding.specs.Bytes.{Bytes, number-of, low-of, high-of}
+use Rattle.encoding.specs.Judging.{both, all-four, all-five}
 
 -- ---- one word's fields
 
@@ -86,7 +72,7 @@ term-value tag v = cases (eqb tag 0)
 
 -- a term that is in range: its tag, and what it says
 term-good : (tag v : ℕ) → isTerm tag v ≡ true → v < numberLimit → (tag ≤ 1) × GoodTerm anyVariable (termOf tag v)
-term-good tag v e h = let p = parts2 (leb tag 1) (eqb tag 0 || ltb v variables) e in (leb-true tag 1 (p .0), cases (eqb tag 0) (p .1))
+term-good tag v e h = let p = both (leb tag 1) (eqb tag 0 || ltb v variables) e in (leb-true tag 1 (p .0), cases (eqb tag 0) (p .1))
   where
     cases : (t : Bool) → (t || ltb v variables) ≡ true → GoodTerm anyVariable (if t then constant v else variable v)
     cases true q = h
@@ -102,41 +88,43 @@ spell-by code {a} {a′} {b} {b′} {c} {c′} {v} {v′} {t} {t′} p q r s u =
 abbrev fields : ℕ → ℕ → ℕ → ℕ → ℕ → ℕ → Fields
 fields code a b c value target = record { code = code; a = a; b = b; c = c; value = value; target = target }
 
-module _ (size : ℕ) (before : Earlier) where
-  -- a word that goes on, or may be the last
-  goes-on : {f : Fields} {w : Word} → encodeWord w ≡ spell f → eqb (f .code) 0 ≡ false → GoodWord (before .kinds) size w → leb 10 (f .code) ≡ false
-      → Says size before f w
-  goes-on {f} {w} b z g n = record { bytes = b; here = inr (record { code-is = z; good = g }); ends = λ q. absurd (false≢true (sym n ∙ q)) }
+-- what holds of each of the thirteen codes
+by-code : (P : ℕ → Type 0) → P 0 → P 1 → P 2 → P 3 → P 4 → P 5 → P 6 → P 7 → P 8 → P 9 → P 10 → P 11 → P 12 → (code : ℕ) → code < 13 → P code
+by-code P p0 p1 p2 p3 p4 p5 p6 p7 p8 p9 p10 p11 p12 zero h = p0
+by-code P p0 p1 p2 p3 p4 p5 p6 p7 p8 p9 p10 p11 p12 (suc zero) h = p1
+by-code P p0 p1 p2 p3 p4 p5 p6 p7 p8 p9 p10 p11 p12 (suc (suc zero)) h = p2
+by-code P p0 p1 p2 p3 p4 p5 p6 p7 p8 p9 p10 p11 p12 (suc (suc (suc zero))) h = p3
+by-code P p0 p1 p2 p3 p4 p5 p6 p7 p8 p9 p10 p11 p12 (suc (suc (suc (suc zero)))) h = p4
+by-code P p0 p1 p2 p3 p4 p5 p6 p7 p8 p9 p10 p11 p12 (suc (suc (suc (suc (suc zero))))) h = p5
+by-code P p0 p1 p2 p3 p4 p5 p6 p7 p8 p9 p10 p11 p12 (suc (suc (suc (suc (suc (suc zero)))))) h = p6
+by-code P p0 p1 p2 p3 p4 p5 p6 p7 p8 p9 p10 p11 p12 (suc (suc (suc (suc (suc (suc (suc zero))))))) h = p7
+by-code P p0 p1 p2 p3 p4 p5 p6 p7 p8 p9 p10 p11 p12 (suc (suc (suc (suc (suc (suc (suc (suc zero)))))))) h = p8
+by-code P p0 p1 p2 p3 p4 p5 p6 p7 p8 p9 p10 p11 p12 (suc (suc (suc (suc (suc (suc (suc (suc (suc zero))))))))) h = p9
+by-code P p0 p1 p2 p3 p4 p5 p6 p7 p8 p9 p10 p11 p12 (suc (suc (suc (suc (suc (suc (suc (suc (suc (suc zero)))))))))) h = p10
+by-code P p0 p1 p2 p3 p4 p5 p6 p7 p8 p9 p10 p11 p12 (suc (suc (suc (suc (suc (suc (suc (suc (suc (suc (suc zero))))))))))) h = p11
+by-code P p0 p1 p2 p3 p4 p5 p6 p7 p8 p9 p10 p11 p12 (suc (suc (suc (suc (suc (suc (suc (suc (suc (suc (suc (suc zero)))))))))))) h = p12
+by-code P p0 p1 p2 p3 p4 p5 p6 p7 p8 p9 p10 p11 p12 (suc (suc (suc (suc (suc (suc (suc (suc (suc (suc (suc (suc (suc code))))))))))))) h = let bad : ⊥ = omega arith in absurd bad
 
-  may-end : {f : Fields} {w : Word} → encodeWord w ≡ spell f → eqb (f .code) 0 ≡ false → GoodWord (before .kinds) size w → EndsWell (w ∷ [])
-      → Says size before f w
-  may-end b z g n = record { bytes = b; here = inr (record { code-is = z; good = g }); ends = λ q. n }
+-- a word that goes on, or may be the last
+goes-on : (size : ℕ) (before : Earlier) {f : Fields} {w : Word} → encodeWord w ≡ spell f → eqb (f .code) 0 ≡ false → GoodWord (before .kinds) size w
+    → leb 10 (f .code) ≡ false → Says size before f w
+goes-on size before {f} {w} b z g n = record { bytes = b; here = inr (record { code-is = z; good = g }); ends = λ q. absurd (false≢true (sym n ∙ q)) }
 
-  test-says : (a b c value target : ℕ) → b < 256 → b + 256 * c < numberLimit → value < numberLimit
-      → wordIsGood size before (fields 6 a b c value target) ≡ true → Says size before (fields 6 a b c value target) (wordOf (fields 6 a b c value target))
-  test-says a b c value target kb kl kv e =
-      let f = fields 6 a b c value target in
-      let h = parts4 (leb a 15) (isTerm (leftTag f) (leftOf f)) (isTerm (rightTag f) value) (ltb target size) e in
-      let l = term-good (leftTag f) (leftOf f) (h .1) kl in
-      let r = term-good (rightTag f) value (h .2) kv in
-      let sum : 4 * (a / 4) + 2 * (a / 2 % 2) + a % 2 ≡ a = omega arith in
-      let code : testCode (record { comparison = comparisonOf (a / 4); left = termOf (leftTag f) (leftOf f); right = termOf (rightTag f) value }) ≡ a
-      = rw (comparison-number (a / 4) (omega (arith, leb-true a 15 (h .0))), term-tag (leftTag f) (leftOf f) (l .0), term-tag (rightTag f) value (r .0)) sum in
-      goes-on
-      (spell-by 6 code
-      (ap (λ (x : ℕ). x % 256) (term-value (leftTag f) (leftOf f)) ∙ low-of b c kb)
-      (ap (λ (x : ℕ). x / 256) (term-value (leftTag f) (leftOf f)) ∙ high-of b c kb)
-      (term-value (rightTag f) value) refl)
-      refl ((l .1, r .1), ltb-true target size (h .3)) refl
+may-end : (size : ℕ) (before : Earlier) {f : Fields} {w : Word} → encodeWord w ≡ spell f → eqb (f .code) 0 ≡ false → GoodWord (before .kinds) size w
+    → EndsWell (w ∷ []) → Says size before f w
+may-end size before b z g n = record { bytes = b; here = inr (record { code-is = z; good = g }); ends = λ q. n }
 
-  -- code by code, in the table's order
-  by-code : (code a b c value target : ℕ) → code < 13 → b < 256 → b + 256 * c < numberLimit → value < numberLimit
-      → wordIsGood size before (fields code a b c value target) ≡ true
-      → Says size before (fields code a b c value target) (wordOf (fields code a b c value target))
-  by-code zero a b c value target k kb kl kv e =
-      let p = parts2 _ _ e in
-      let q = parts2 _ _ (p .0) in
-      let h = parts5 _ _ _ _ _ (q .0) in
+-- each code in the table's order, with any fields
+module _ (size : ℕ) (before : Earlier) (a b c value target : ℕ) (low : b < 256) (left : b + 256 * c < numberLimit) (right : value < numberLimit) where
+  abbrev Code : ℕ → Type 0
+  Code code =
+      let f = fields code a b c value target in wordIsGood size before f ≡ true → Says size before f (wordOf f)
+
+  kind-says : Code 0
+  kind-says e =
+      let p = both _ _ e in
+      let q = both _ _ (p .0) in
+      let h = all-five _ _ _ _ _ (q .0) in
       record {
         bytes = spell-by 0 (class-byte a (leb-true a 1 (h .0))) refl (zero-is c (h .2)) (zero-is value (h .3)) (zero-is target (h .4));
         here = inl (record {
@@ -149,49 +137,111 @@ module _ (size : ℕ) (before : Earlier) where
         });
         ends = λ q. absurd (false≢true q);
       }
-  by-code (suc zero) a b c value target k kb kl kv e =
-      let h = parts5 _ _ _ _ _ e in
-      goes-on (spell-by 1 refl (zero-is b (h .1)) (zero-is c (h .2)) (zero-is value (h .3)) (zero-is target (h .4))) refl (ltb-true a cursorCount (h .0)) refl
-  by-code (suc (suc zero)) a b c value target k kb kl kv e =
-      let h = parts5 _ _ _ _ _ e in
-      goes-on (spell-by 2 refl refl (zero-is c (h .2)) (zero-is value (h .3)) refl) refl
-      (ltb-true a cursorCount (h .0), ltb-true b (before .kinds) (h .1), ltb-true target size (h .4)) refl
-  by-code (suc (suc (suc zero))) a b c value target k kb kl kv e =
-      let h = parts5 _ _ _ _ _ e in
-      goes-on (spell-by 3 refl refl refl (zero-is value (h .3)) (zero-is target (h .4))) refl
-      (ltb-true a cursorCount (h .0), ltb-true b mostNumbers (h .1), ltb-true c variables (h .2)) refl
-  by-code (suc (suc (suc (suc zero)))) a b c value target k kb kl kv e =
-      let h = parts5 _ _ _ _ _ e in
-      goes-on (spell-by 4 refl refl refl (zero-is value (h .3)) refl) refl
-      (ltb-true a cursorCount (h .0), ltb-true b mostNumbers (h .1), ltb-true c variables (h .2), ltb-true target size (h .4)) refl
-  by-code (suc (suc (suc (suc (suc zero))))) a b c value target k kb kl kv e =
-      let h = parts4 _ _ _ _ e in
-      goes-on (spell-by 5 refl refl (zero-is c (h .2)) refl refl) refl
-      (ltb-true a cursorCount (h .0), ltb-true b mostNumbers (h .1), kv, ltb-true target size (h .3)) refl
-  by-code (suc (suc (suc (suc (suc (suc zero)))))) a b c value target k kb kl kv e = test-says a b c value target kb kl kv e
-  by-code (suc (suc (suc (suc (suc (suc (suc zero))))))) a b c value target k kb kl kv e =
-      let h = parts5 _ _ _ _ _ e in
-      goes-on (spell-by 7 (zero-is a (h .0)) (zero-is b (h .1)) (zero-is c (h .2)) (zero-is value (h .3)) (zero-is target (h .4))) refl tt refl
-  by-code (suc (suc (suc (suc (suc (suc (suc (suc zero)))))))) a b c value target k kb kl kv e =
-      let h = parts5 _ _ _ _ _ e in
-      goes-on (spell-by 8 refl (zero-is b (h .1)) (zero-is c (h .2)) (zero-is value (h .3)) (zero-is target (h .4))) refl (ltb-true a (before .kinds) (h .0)) refl
-  by-code (suc (suc (suc (suc (suc (suc (suc (suc (suc zero))))))))) a b c value target k kb kl kv e =
-      let h = parts4 _ _ _ _ e in
-      let t = term-good b value (h .1) kv in
-      goes-on (spell-by 9 refl (term-tag b value (t .0)) (zero-is c (h .2)) (term-value b value) (zero-is target (h .3))) refl (ltb-true a mostNumbers (h .0), t .1) refl
-  by-code (suc (suc (suc (suc (suc (suc (suc (suc (suc (suc zero)))))))))) a b c value target k kb kl kv e =
-      let h = parts5 _ _ _ _ _ e in
-      may-end (spell-by 10 (zero-is a (h .0)) (zero-is b (h .1)) (zero-is c (h .2)) (zero-is value (h .3)) refl) refl (ltb-true target size (h .4)) tt
-  by-code (suc (suc (suc (suc (suc (suc (suc (suc (suc (suc (suc zero))))))))))) a b c value target k kb kl kv e =
-      let h = parts5 _ _ _ _ _ e in
-      may-end (spell-by 11 refl (zero-is b (h .1)) (zero-is c (h .2)) (zero-is value (h .3)) (zero-is target (h .4))) refl (ltb-true a mostRules (h .0)) tt
-  by-code (suc (suc (suc (suc (suc (suc (suc (suc (suc (suc (suc (suc zero)))))))))))) a b c value target k kb kl kv e =
-      let h = parts5 _ _ _ _ _ e in
-      may-end (spell-by 12 (zero-is a (h .0)) (zero-is b (h .1)) (zero-is c (h .2)) (zero-is value (h .3)) (zero-is target (h .4))) refl tt tt
-  by-code (suc (suc (suc (suc (suc (suc (suc (suc (suc (suc (suc (suc (suc code))))))))))))) a b c value target k kb kl kv e = let bad : ⊥ = omega arith in absurd bad
 
+  open-says : Code 1
+  open-says e =
+      let h = all-five _ _ _ _ _ e in
+      goes-on size before (spell-by 1 refl (zero-is b (h .1)) (zero-is c (h .2)) (zero-is value (h .3)) (zero-is target (h .4))) refl
+      (ltb-true a cursorCount (h .0)) refl
+
+  seek-says : Code 2
+  seek-says e =
+      let h = all-five _ _ _ _ _ e in
+      goes-on size before (spell-by 2 refl refl (zero-is c (h .2)) (zero-is value (h .3)) refl) refl
+      (ltb-true a cursorCount (h .0), ltb-true b (before .kinds) (h .1), ltb-true target size (h .4)) refl
+
+  bind-says : Code 3
+  bind-says e =
+      let h = all-five _ _ _ _ _ e in
+      goes-on size before (spell-by 3 refl refl refl (zero-is value (h .3)) (zero-is target (h .4))) refl
+      (ltb-true a cursorCount (h .0), ltb-true b mostNumbers (h .1), ltb-true c variables (h .2)) refl
+
+  same-says : Code 4
+  same-says e =
+      let h = all-five _ _ _ _ _ e in
+      goes-on size before (spell-by 4 refl refl refl (zero-is value (h .3)) refl) refl
+      (ltb-true a cursorCount (h .0), ltb-true b mostNumbers (h .1), ltb-true c variables (h .2), ltb-true target size (h .4)) refl
+
+  lit-says : Code 5
+  lit-says e =
+      let h = all-four _ _ _ _ e in
+      goes-on size before (spell-by 5 refl refl (zero-is c (h .2)) refl refl) refl
+      (ltb-true a cursorCount (h .0), ltb-true b mostNumbers (h .1), right, ltb-true target size (h .3)) refl
+
+  test-says : Code 6
+  test-says e =
+      let f = fields 6 a b c value target in
+      let h = all-four (leb a 15) (isTerm (leftTag f) (leftOf f)) (isTerm (rightTag f) value) (ltb target size) e in
+      let l = term-good (leftTag f) (leftOf f) (h .1) left in
+      let r = term-good (rightTag f) value (h .2) right in
+      let sum : 4 * (a / 4) + 2 * (a / 2 % 2) + a % 2 ≡ a = omega arith in
+      let test : comparisonNumber (comparisonOf (a / 4)) ≡ a / 4 = comparison-number (a / 4) (omega (arith, leb-true a 15 (h .0))) in
+      goes-on size before
+      (spell-by 6
+      (rw (test, term-tag (leftTag f) (leftOf f) (l .0), term-tag (rightTag f) value (r .0)) sum)
+      (ap (λ (x : ℕ). x % 256) (term-value (leftTag f) (leftOf f)) ∙ low-of b c low)
+      (ap (λ (x : ℕ). x / 256) (term-value (leftTag f) (leftOf f)) ∙ high-of b c low)
+      (term-value (rightTag f) value) refl)
+      refl ((l .1, r .1), ltb-true target size (h .3)) refl
+
+  keep-says : Code 7
+  keep-says e =
+      let h = all-five _ _ _ _ _ e in
+      goes-on size before (spell-by 7 (zero-is a (h .0)) (zero-is b (h .1)) (zero-is c (h .2)) (zero-is value (h .3)) (zero-is target (h .4))) refl tt refl
+
+  put-says : Code 8
+  put-says e =
+      let h = all-five _ _ _ _ _ e in
+      goes-on size before (spell-by 8 refl (zero-is b (h .1)) (zero-is c (h .2)) (zero-is value (h .3)) (zero-is target (h .4))) refl
+      (ltb-true a (before .kinds) (h .0)) refl
+
+  arg-says : Code 9
+  arg-says e =
+      let h = all-four _ _ _ _ e in
+      let t = term-good b value (h .1) right in
+      goes-on size before (spell-by 9 refl (term-tag b value (t .0)) (zero-is c (h .2)) (term-value b value) (zero-is target (h .3))) refl
+      (ltb-true a mostNumbers (h .0), t .1) refl
+
+  jump-says : Code 10
+  jump-says e =
+      let h = all-five _ _ _ _ _ e in
+      may-end size before (spell-by 10 (zero-is a (h .0)) (zero-is b (h .1)) (zero-is c (h .2)) (zero-is value (h .3)) refl) refl
+      (ltb-true target size (h .4)) tt
+
+  fire-says : Code 11
+  fire-says e =
+      let h = all-five _ _ _ _ _ e in
+      may-end size before (spell-by 11 refl (zero-is b (h .1)) (zero-is c (h .2)) (zero-is value (h .3)) (zero-is target (h .4))) refl
+      (ltb-true a mostRules (h .0)) tt
+
+  quiet-says : Code 12
+  quiet-says e =
+      let h = all-five _ _ _ _ _ e in
+      may-end size before (spell-by 12 (zero-is a (h .0)) (zero-is b (h .1)) (zero-is c (h .2)) (zero-is value (h .3)) (zero-is target (h .4))) refl tt tt
+
+  code-says : (code : ℕ) → code < 13 → Code code
+  code-says =
+      by-code Code kind-says open-says seek-says bind-says same-says lit-says test-says keep-says put-says arg-says jump-says fire-says quiet-says
+
+module _ (size : ℕ) (before : Earlier) where
+  -- no other code is good
   unknown : (f : Fields) → 13 ≤ f .code → wordIsGood size before f ≡ false
-  unknown f h = rw (other 0 (omega arith), other 1 (omega arith), other 2 (omega arith), other 3 (omega arith), other 4 (omega arith), other 5 (omega arith), other 6 (omega arith), other 7 (omega arith), other 8 (omega arith), other 9 (omega arith), other 10 (omega arith), other 11 (omega arith), other 12 (omega arith))
+  unknown f h =
+      rw (
+        other 0 (omega arith),
+        other 1 (omega arith),
+        other 2 (omega arith),
+        other 3 (omega arith),
+        other 4 (omega arith),
+        other 5 (omega arith),
+        other 6 (omega arith),
+        other 7 (omega arith),
+        other 8 (omega arith),
+        other 9 (omega arith),
+        other 10 (omega arith),
+        other 11 (omega arith),
+        other 12 (omega arith),
+      )
     where
       other : (k : ℕ) → k < 13 → eqb (f .code) k ≡ false
       other k l = ne-eqb (f .code) k (λ q. omega arith)
@@ -199,10 +249,10 @@ module _ (size : ℕ) (before : Earlier) where
   -- Fields of bytes that are judged good are those of the word that they say, which is good where it stands.
   pub word-says : (f : Fields) → f .b < 256 → leftOf f < numberLimit → f .value < numberLimit → wordIsGood size before f ≡ true
       → Says size before f (wordOf f)
-  word-says f kb kl kv e = cases (ltb (f .code) 13) refl
+  word-says f low left right e = cases (ltb (f .code) 13) refl
     where
       cases : (t : Bool) → ltb (f .code) 13 ≡ t → Says size before f (wordOf f)
-      cases true q = by-code (f .code) (f .a) (f .b) (f .c) (f .value) (f .target) (ltb-true (f .code) 13 q) kb kl kv e
+      cases true q = code-says size before (f .a) (f .b) (f .c) (f .value) (f .target) low left right (f .code) (ltb-true (f .code) 13 q) e
       cases false q = absurd (false≢true (sym (unknown f (ltb-false (f .code) 13 q)) ∙ e))
 
 -- ---- from the word to its fields
@@ -312,3 +362,44 @@ module _ (size : ℕ) (before : Earlier) (rest : List ℕ) where
   }
   word-read (FIRE r) g = record { word = refl; good = rw (lt-ltb r mostRules g); code-is = refl; ends = λ q. refl }
   word-read QUIET g = record { word = refl; good = refl; code-is = refl; ends = λ q. refl }
+
+-- ---- its bytes
+
+pub word-length : (w : Word) → length (encodeWord w) ≡ 8
+word-length (KIND card arity) = refl
+word-length (OPEN c) = refl
+word-length (SEEK c k target) = refl
+word-length (BIND c i x) = refl
+word-length (SAME c i x target) = refl
+word-length (LIT c i v target) = refl
+word-length (TEST t target) = refl
+word-length KEEP = refl
+word-length (PUT k) = refl
+word-length (ARG i t) = refl
+word-length (JUMP target) = refl
+word-length (FIRE r) = refl
+word-length QUIET = refl
+
+term-limit : (t : Term) → GoodTerm anyVariable t → termValue t < numberLimit
+term-limit (constant v) g = g
+term-limit (variable x) g = omega (arith, g .0)
+
+pub word-is-bytes : (kinds size : ℕ) (w : Word) → kinds ≤ 256 → size ≤ numberLimit → GoodWord kinds size w → Bytes (encodeWord w)
+word-is-bytes kinds size (KIND card arity) k n g = absurd g
+word-is-bytes kinds size (OPEN c) k n g = omega arith
+word-is-bytes kinds size (SEEK c kind target) k n g = omega arith
+word-is-bytes kinds size (BIND c i x) k n g = omega arith
+word-is-bytes kinds size (SAME c i x target) k n g = omega arith
+word-is-bytes kinds size (LIT c i v target) k n g = omega arith
+word-is-bytes kinds size (TEST t target) k n g =
+    omega (arith, comparison-of (t .comparison) .0, tag-small (t .left), tag-small (t .right), term-limit (t .left) (g .0 .0), term-limit (t .right) (g .0 .1))
+word-is-bytes kinds size KEEP k n g = omega arith
+word-is-bytes kinds size (PUT kind) k n g = omega arith
+word-is-bytes kinds size (ARG i t) k n g = omega (arith, tag-small t, term-limit t (g .1))
+word-is-bytes kinds size (JUMP target) k n g = omega arith
+word-is-bytes kinds size (FIRE r) k n g = omega arith
+word-is-bytes kinds size QUIET k n g = omega arith
+
+pub kind-is-bytes : (card : Bool) (arity : ℕ) → arity ≤ mostNumbers → Bytes (encodeWord (KIND card arity))
+kind-is-bytes true arity h = omega arith
+kind-is-bytes false arity h = omega arith

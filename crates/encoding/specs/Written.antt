@@ -4,7 +4,7 @@ use Prim.Native.Nat.{ℕ, zero, suc, _+_, _*_, _-_, _≤_, _<_}
 use native.Mathlib.Omega.{arith}
 use mathlib.Core.Path.{_≡_, refl, sym, ap, ap₂, _∙_}
 use mathlib.Core.Logic.{_⊎_, inl, inr}
-use mathlib.Core.Bool.{Bool, true, false, not, _&&_}
+use mathlib.Core.Bool.{Bool, true, false, not, _&&_, false≢true}
 use mathlib.Core.List.{List, [], _∷_, _++_, map, append-assoc, append-nil}
 use lib.ListN.{length, getD, drop, length-append}
 use lib.Dec.{eqb, ltb}
@@ -13,14 +13,14 @@ use Rattle.meaning.specs.Basics.{if_then_else_, All}
 use Rattle.meaning.specs.Facts.{Kind, Fact, Board, mostCards, mostNotices, isCard, arityOf}
 use Rattle.files.specs.Numbers.{Refusal, PLACE, MANY, FIELD}
 use Rattle.files.specs.Marks.{CA, NO, EN, isMark}
-use Rattle.files.specs.Judge.{Verdict, accepted, refused, Judged, go, ended, stop, demand, byte, atEnd, afterRecord, judge}
+use Rattle.files.specs.Judge.{Verdict, accepted, Judged, go, ended, stop, atEnd, afterRecord, judge}
 use Rattle.files.specs.Board.{Mark, markOf, isEmpty, isOfClass, numbers, row, marked, boardRecord, emptyBoard, judgeBoard}
 use Rattle.files.specs.Board as B
 use Rattle.files.specs.InPlace.{byteAt, factAt, boardAt}
 use Rattle.files.specs.Encode.{concatMap}
 use Rattle.encoding.specs.Bytes.{said}
 use Rattle.encoding.specs.Records.{Reads, byte-here, further, numbers-at, records-at}
-use Rattle.encoding.specs.Judging.{demanded, byte-read, numbers-read, numbers-there}
+use Rattle.encoding.specs.Judging.{both, not-accepted, demanded, byte-read, numbers-read, numbers-there}
 
 -- a row as it stands: its kind, and the bytes of its numbers
 pub record Written : Type 0 where
@@ -49,10 +49,6 @@ pub record Fits (kinds : List Kind) (card : Bool) (w : Written) : Type 0 where
 
 -- ---- tests
 
-both : (s t : Bool) → (s && t) ≡ true → (s ≡ true) × (t ≡ true)
-both true t e = (refl, e)
-both false t e = let z : _≡_ {A = ℕ} 0 1 = cc in let bad : ⊥ = omega arith in absurd bad
-
 of-class : (kinds : List Kind) (card : Bool) (k : ℕ) → isOfClass kinds card k ≡ true → (k < length kinds) × (isCard kinds k ≡ card)
 of-class kinds true k e = let h = both (ltb k (length kinds)) (isCard kinds k) e in (ltb-true k (length kinds) (h .0), h .1)
 of-class kinds false k e =
@@ -64,7 +60,7 @@ is-of-class kinds false k h e = rw (lt-ltb k (length kinds) h) (ap not e)
 
 empty-nil : {A : Type 0} (xs : List A) → isEmpty xs ≡ true → xs ≡ []
 empty-nil [] e = refl
-empty-nil (x ∷ xs) e = let z : _≡_ {A = ℕ} 0 1 = cc in let bad : ⊥ = omega arith in absurd bad
+empty-nil (x ∷ xs) e = absurd (false≢true e)
 
 -- ---- one record
 
@@ -222,12 +218,12 @@ module _ (kinds : List Kind) (n : ℕ) where
     cardsRoom = λ r. rw (← (let b : s ≡ board = cc in b)) r;
     noticesRoom = λ r. rw (← (let b : s ≡ board = cc in b)) r;
   }
-  end-held s s′ rest (b ∷ rest′) board e w q = let z : _≡_ {A = ℕ} 0 1 = cc in let bad : ⊥ = omega arith in absurd bad
+  end-held s s′ rest (b ∷ rest′) board e w q = absurd (not-accepted q)
 
   judge-held : (turns : ℕ) (s : Board) (rest : List ℕ) (board : Board) → judge n (boardRecord kinds n) turns s rest ≡ accepted board
       → Held kinds s rest board
   unfolding judge
-  judge-held zero s rest board e = let z : _≡_ {A = ℕ} 0 1 = cc in let bad : ⊥ = omega arith in absurd bad
+  judge-held zero s rest board e = absurd (not-accepted e)
   judge-held (suc turns) s rest board e = cases (judge-held turns) (boardRecord kinds n s rest) (record-next kinds n s rest) e
     where
       cases : ((s : Board) (rest : List ℕ) (board : Board) → judge n (boardRecord kinds n) turns s rest ≡ accepted board → Held kinds s rest board)
@@ -236,7 +232,7 @@ module _ (kinds : List Kind) (n : ℕ) where
       cases ih (go s′ rest′) (inl c) q = card-held s s′ rest rest′ board c (ih s′ rest′ board q)
       cases ih (go s′ rest′) (inr c) q = notice-held s s′ rest rest′ board c (ih s′ rest′ board q)
       cases ih (ended s′ rest′) h q = end-held s s′ rest rest′ board (h .0) (h .1) q
-      cases ih (stop why place) h q = let z : _≡_ {A = ℕ} 0 1 = cc in let bad : ⊥ = omega arith in absurd bad
+      cases ih (stop why place) h q = absurd (not-accepted q)
 
 -- the rows of a file that is accepted as the board
 pub record Rows (kinds : List Kind) (file : List ℕ) (board : Board) : Type 0 where
