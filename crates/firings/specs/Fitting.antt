@@ -1,0 +1,110 @@
+-- `fit`, the program, answers exactly where the choice fits in document 01's words (`Fits`), and the values that it finds are the only ones. The words
+-- speak of all rows at once and the program goes atom by atom: `fits-split` says that both mean the same.
+use mathlib.Core.Path.{_≡_, refl, sym, ap, _∙_, subst}
+use mathlib.Core.Logic.{_⊎_, _↔_, ⊎-elim}
+use Prim.Native.Nat.{ℕ}
+use mathlib.Core.Bool.{Bool, true, false, not, _||_, true≢false, or-true}
+use mathlib.Core.Option.{Option, none, some, Option·none-ne-some}
+use mathlib.Core.List.{List, [], _∷_, List·Memᴰ·head, List·Memᴰ·tail, List·Memᴰ·not-nil, List·Memᴰ·cases-cons, Memᴰ·cast}
+use lib.Dec.{eqb}
+use borrow.Author.Tests.{eq-eqb, ne-eqb, not-true}
+use Rattle.meaning.specs.Basics.{if_then_else_, In}
+use Rattle.meaning.specs.Facts.{Kind, Fact, isCard}
+use Rattle.meaning.specs.Rules.{Atom, Test, Values, occursIn}
+use Rattle.meaning.specs.Fit.{Choice, Marks, mark, Bindings, valuesOf, HasKinds, cardRows, Apart, Unused, AtomsEqual, TestsHold, Under, Fits, Known, free, takeRow, fit}
+use Rattle.firings.specs.Basics.{neither}
+use Rattle.firings.specs.Answers.{isBound, under-own, under-bound, answered, answer-is, BoundTests, FitsBy, goneAfter, fit-answers}
+
+-- ---- all at once, and row by row
+
+-- "no two card atoms have one row", and none of the rows is gone
+abbrev Fresh : Marks → List ℕ → Type 0
+Fresh gone rows = Apart rows × Unused gone rows
+
+fresh-cons : (gone : Marks) (n : ℕ) (rows : List ℕ) → ((gone n ≡ false) × Fresh (mark n gone) rows) ↔ Fresh gone (n ∷ rows)
+fresh-cons gone n rows = (
+  (λ h. (
+    ((λ m. true≢false (sym (eq-eqb n n refl) ∙ neither (gone n) (eqb n n) (h .1 .1 n m) .1)), h .1 .0),
+    λ i m. ⊎-elim (λ e. ap gone e ∙ h .0) (λ k. neither (gone i) (eqb i n) (h .1 .1 i k) .0) (List·Memᴰ·cases-cons m),
+  )),
+  λ h. (
+    h .1 n (List·Memᴰ·head refl),
+    (h .0 .1, λ i m. rw (h .1 i (List·Memᴰ·tail m)) (ne-eqb i n (λ e. h .0 .0 (Memᴰ·cast (sym e) m)))),
+  ),
+)
+
+-- a card row must be free and is then taken; a notice row is neither
+fresh-row : (card : Bool) (gone : Marks) (n : ℕ) (rows : List ℕ)
+    → ((free card gone n ≡ true) × Fresh (takeRow card n gone) rows) ↔ Fresh gone (if card then n ∷ rows else rows)
+fresh-row true gone n rows =
+    let w = fresh-cons gone n rows in
+    ((λ h. w .0 (not-true (gone n) (h .0), h .1)), λ h. let k = w .1 h in (rw (k .0), k .1))
+fresh-row false gone n rows = ((λ h. h .1), λ h. (refl, h))
+
+pub fits-split : (kinds : List Kind) (tests : List Test) (values : Values) (atoms : List Atom) (rows : Choice) (gone : Marks)
+    → FitsBy kinds tests atoms rows gone values
+    ↔ ((Apart (cardRows kinds atoms rows) × Unused gone (cardRows kinds atoms rows)) × AtomsEqual values atoms rows × TestsHold values tests)
+fits-split kinds tests values [] [] gone = ((λ h. ((tt, λ n m. absurd (List·Memᴰ·not-nil m)), tt, h)), λ h. h .2)
+fits-split kinds tests values [] (r ∷ rows) gone = ((λ h. absurd h), λ h. h .1)
+fits-split kinds tests values (a ∷ atoms) [] gone = ((λ h. absurd h), λ h. h .1)
+fits-split kinds tests values (a ∷ atoms) (r ∷ rows) gone =
+    let w = fits-split kinds tests values atoms rows (takeRow (isCard kinds (a .kind)) (r .at) gone) in
+    let z = fresh-row (isCard kinds (a .kind)) gone (r .at) (cardRows kinds atoms rows) in (
+      (λ h. let k = w .0 (h .1) in (z .0 (h .0 .0, k .0), (h .0 .1, k .1), k .2)),
+      λ h. let k = z .1 (h .0) in ((k .0, h .1 .0), w .1 (k .1, h .1 .1, h .2)),
+    )
+
+-- an atom that equals its row has its kind
+equal-kinds : (values : Values) (atoms : List Atom) (rows : Choice) → AtomsEqual values atoms rows → HasKinds atoms rows
+equal-kinds values [] [] h = tt
+equal-kinds values [] (r ∷ rows) h = tt
+equal-kinds values (a ∷ atoms) [] h = h
+equal-kinds values (a ∷ atoms) (r ∷ rows) h = (sym (ap (λ (f : Fact). f .kind) (h .0)), equal-kinds values atoms rows (h .1))
+
+-- What an answer of `fit` gives. The values found are under those known before and make the choice fit; bound is what was bound or occurs in the
+-- atoms; gone is what was gone or a row of a card atom; and other values that make the choice fit are the same wherever a variable is bound.
+pub record FitGives (kinds : List Kind) (atoms : List Atom) (tests : List Test) (rows : Choice) (known k : Known) : Type 0 where
+  pub under : Under (known .bindings) (valuesOf (k .bindings))
+  pub fits : FitsBy kinds tests atoms rows (known .gone) (valuesOf (k .bindings))
+  pub binds : (x : ℕ) → isBound (k .bindings) x ≡ (isBound (known .bindings) x || occursIn x atoms)
+  pub gone : k .gone ≡ goneAfter kinds atoms rows (known .gone)
+  pub only : (values : Values) → Under (known .bindings) values → FitsBy kinds tests atoms rows (known .gone) values → Under (k .bindings) values
+
+module _ (kinds : List Kind) (atoms : List Atom) (tests : List Test) (rows : Choice) (known : Known) where
+  by-fits : (w : Fits kinds atoms tests rows (known .bindings) (known .gone)) → FitsBy kinds tests atoms rows (known .gone) (w .values)
+  by-fits w = fits-split kinds tests (w .values) atoms rows (known .gone) .1 ((w .apart, w .unused), w .equal, w .tested)
+
+  fits-by : (values : Values) → Under (known .bindings) values → FitsBy kinds tests atoms rows (known .gone) values → Fits kinds atoms tests rows (known .bindings) (known .gone)
+  fits-by values u h =
+      let w = fits-split kinds tests values atoms rows (known .gone) .0 h in
+      record { ofKind = equal-kinds values atoms rows (w .1); apart = w .0 .0; unused = w .0 .1; values = values; under = u; equal = w .1; tested = w .2 }
+
+  module _ (bound : BoundTests (known .bindings) atoms tests) where
+    pub fit-gives : {k : Known} → fit kinds atoms tests rows known ≡ some k → FitGives kinds atoms tests rows known k
+    fit-gives {k} e =
+        let w = answer-is (rw e at (fit-answers kinds tests atoms rows known bound)) in
+        let own = w .1 .exactly (valuesOf (k .bindings)) .0 (under-own (k .bindings)) in
+        record { under = own .0; fits = own .1; binds = w .1 .binds; gone = w .0; only = λ values u h. w .1 .exactly values .1 (u, h) }
+
+    -- "It fits if each row has its atom's kind, no two card atoms have one row, some values of the variables make every atom equal its row, and the
+    -- tests hold": exactly then `fit` has an answer.
+    pub fit-exactly-if-fits : ((k : Known) × (fit kinds atoms tests rows known ≡ some k)) ↔ Fits kinds atoms tests rows (known .bindings) (known .gone)
+    fit-exactly-if-fits = (
+      (λ p. let g = fit-gives (p .1) in fits-by (valuesOf (p .0 .bindings)) (g .under) (g .fits)),
+      λ w. answered (fit-answers kinds tests atoms rows known bound) (w .values) (w .under) (by-fits w),
+    )
+
+    -- `fit` answers none exactly if the choice does not fit.
+    pub none-exactly-if-not-fits : (fit kinds atoms tests rows known ≡ none) ↔ (Fits kinds atoms tests rows (known .bindings) (known .gone) → ⊥)
+    none-exactly-if-not-fits = ((λ e w. let k = fit-exactly-if-fits .1 w in Option·none-ne-some (k .0) (sym e ∙ k .1)), λ h. go (fit kinds atoms tests rows known) refl h)
+      where
+        go : (o : Option Known) → fit kinds atoms tests rows known ≡ o → (Fits kinds atoms tests rows (known .bindings) (known .gone) → ⊥) → o ≡ none
+        go none e h = refl
+        go (some k) e h = absurd (h (fit-exactly-if-fits .0 (k, e)))
+
+    -- "some values of the variables": the values found are the only ones; any that make the choice fit agree with them on each variable of the body.
+    pub found-values-only : {k : Known} → fit kinds atoms tests rows known ≡ some k → (w : Fits kinds atoms tests rows (known .bindings) (known .gone))
+        → (x : ℕ) → occursIn x atoms ≡ true → w .values x ≡ valuesOf (k .bindings) x
+    found-values-only {k} e w x o =
+        let g = fit-gives e in
+        under-bound (k .bindings) (w .values) (g .only (w .values) (w .under) (by-fits w)) x (g .binds x ∙ rw o (or-true (isBound (known .bindings) x)))

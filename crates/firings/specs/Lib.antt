@@ -1,0 +1,4 @@
+pub mod Basics
+pub mod Answers
+pub mod Fitting
+pub mod Choosing
