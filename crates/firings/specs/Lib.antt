@@ -2,3 +2,4 @@ pub mod Basics
 pub mod Answers
 pub mod Fitting
 pub mod Choosing
+pub mod Sweeping

@@ -1,0 +1,228 @@
+-- A sweep goes once through all its choices, in order: `Sweeping` says so in document 01's words, and `SweepDone` gathers what follows. Each law is an
+-- induction on `Sweeping`, choice by choice.
+use mathlib.Core.Path.{_≡_, refl, sym, ap, _∙_, subst}
+use mathlib.Core.Logic.{_⊎_, inl, inr, _↔_, ⊎-elim}
+use Prim.Native.Nat.{ℕ}
+use mathlib.Core.Bool.{Bool, true, false, _||_, true≢false, or-assoc, or-false, or-true}
+use mathlib.Core.Option.{Option, none, some}
+use mathlib.Core.List.{List, [], _∷_, _++_, map, append-assoc, append-nil, List·Memᴰ·head, List·Memᴰ·tail, List·Memᴰ·not-nil, List·Memᴰ·cases-cons, List·Memᴰ·append-cases}
+use Rattle.meaning.specs.Basics.{fold, mem, In, All}
+use Rattle.meaning.specs.Facts.{Kind, Fact, Board, isCard}
+use Rattle.meaning.specs.Rules.{Atom, Sweep, Values, occursIn}
+use Rattle.meaning.specs.Fit.{Choice, Marks, Bindings, valuesOf, IsChoice, cardRows, Apart, Unused, AtomsEqual, Under, Fits, Known, fit, choices}
+use Rattle.meaning.specs.Firing.{Work, headFacts, taken, takeIfFits, runSweep, runSweeps}
+use Rattle.meaning.specs.WellFormed.{HasCard, GoodSweep}
+use Rattle.firings.specs.Basics.{cases, neither, in-mem, mem-append}
+use Rattle.firings.specs.Answers.{isBound, BoundTests, goneAfter, good-tests}
+use Rattle.firings.specs.Fitting.{FitGives, fit-gives, fits-split, fit-exactly-if-fits, none-exactly-if-not-fits}
+use Rattle.firings.specs.Choosing.{Ascending, choices-exactly, choices-ascending}
+
+-- ---- what a sweep takes
+
+-- a taken choice and the values found for it
+pub record Taken : Type 0 where
+  pub choice : Choice
+  pub bindings : Bindings
+
+abbrev pub choicesOf : List Taken → List Choice
+choicesOf ts = map (λ t. t .choice) ts
+
+-- the card rows of all taken choices
+abbrev pub rowsUsed : List Kind → List Atom → List Taken → List ℕ
+rowsUsed kinds atoms [] = []
+rowsUsed kinds atoms (t ∷ ts) = cardRows kinds atoms (t .choice) ++ rowsUsed kinds atoms ts
+
+-- "each taken choice's head atoms"
+abbrev pub factsMade : List Atom → List Taken → List Fact
+factsMade heads [] = []
+factsMade heads (t ∷ ts) = headFacts (t .bindings) heads ++ factsMade heads ts
+
+abbrev pub AllNotices : List Kind → List Atom → Type 0
+AllNotices kinds atoms = All (λ a. isCard kinds (a .kind) ≡ false) atoms
+
+apart-append : (l m : List ℕ) → Apart l → Apart m → ((n : ℕ) → In n l → In n m → ⊥) → Apart (l ++ m)
+apart-append [] m p q h = q
+apart-append (x ∷ l) m p q h = (
+  (λ k. ⊎-elim (p .0) (h x (List·Memᴰ·head refl)) (List·Memᴰ·append-cases l k)),
+  apart-append l m (p .1) q (λ n i. h n (List·Memᴰ·tail i)),
+)
+
+card-row : (kinds : List Kind) (values : Values) (atoms : List Atom) (rows : Choice) → HasCard kinds atoms → AtomsEqual values atoms rows → (n : ℕ) × In n (cardRows kinds atoms rows)
+card-row kinds values [] rows h q = absurd h
+card-row kinds values (a ∷ atoms) [] h q = absurd q
+card-row kinds values (a ∷ atoms) (r ∷ rows) (inl h) q = (r .at, rw h (List·Memᴰ·head refl))
+card-row kinds values (a ∷ atoms) (r ∷ rows) (inr h) q =
+    let w = card-row kinds values atoms rows h (q .1) in
+    (w .0, cases (isCard kinds (a .kind)) (λ y. rw y (List·Memᴰ·tail (w .1))) (λ y. rw y (w .1)))
+
+no-card-row : (kinds : List Kind) (atoms : List Atom) (rows : Choice) → AllNotices kinds atoms → cardRows kinds atoms rows ≡ []
+no-card-row kinds [] rows h = refl
+no-card-row kinds (a ∷ atoms) [] h = refl
+no-card-row kinds (a ∷ atoms) (r ∷ rows) h = rw (h .0) (no-card-row kinds atoms rows (h .1))
+
+-- ---- choice by choice
+
+module _ (kinds : List Kind) (sweep : Sweep) (bindings : Bindings) where
+  -- the choice fits "under the body's values", "with card rows unused so far"
+  abbrev pub FitsNow : Marks → Choice → Type 0
+  FitsNow used c = Fits kinds (sweep .body) (sweep .tests) c bindings used
+
+  abbrev pub workWith : Work → Taken → Work
+  workWith work t = record { used = goneAfter kinds (sweep .body) (t .choice) (work .used); made = work .made ++ headFacts (t .bindings) (sweep .heads) }
+
+  -- From the work through the choices, with those taken in order, to the work at last: a choice that does not fit is passed over, and one that fits
+  -- is taken, with values that make it fit.
+  pub data Sweeping : Work → List Choice → List Taken → Work → Type 0 where
+    over : {work : Work} → Sweeping work [] [] work
+    passes : {work work′ : Work} {c : Choice} {cs : List Choice} {ts : List Taken}
+        → (FitsNow (work .used) c → ⊥) → Sweeping work cs ts work′ → Sweeping work (c ∷ cs) ts work′
+    takes : {work work′ : Work} {c : Choice} {found : Bindings} {cs : List Choice} {ts : List Taken}
+        → FitsNow (work .used) c → Under bindings (valuesOf found) → AtomsEqual (valuesOf found) (sweep .body) c
+        → Sweeping (workWith work (record { choice = c; bindings = found })) cs ts work′
+        → Sweeping work (c ∷ cs) (record { choice = c; bindings = found } ∷ ts) work′
+
+  -- used afterwards: what was used before, and the rows of the taken choices
+  used-after : {work work′ : Work} {cs : List Choice} {ts : List Taken} → Sweeping work cs ts work′ → (n : ℕ) → work′ .used n ≡ (work .used n || mem n (rowsUsed kinds (sweep .body) ts))
+  used-after {work} over n = sym (or-false (work .used n))
+  used-after (passes x l) n = used-after l n
+  used-after {work} (takes {c = c} {ts = ts} f u e l) n =
+      used-after l n ∙ or-assoc (work .used n) (mem n (cardRows kinds (sweep .body) c)) (mem n (rowsUsed kinds (sweep .body) ts)) ∙ sym (rw (mem-append n (cardRows kinds (sweep .body) c)))
+
+  -- no card row is used twice, nor one that was used before
+  rows-fresh : {work work′ : Work} {cs : List Choice} {ts : List Taken} → Sweeping work cs ts work′ → Apart (rowsUsed kinds (sweep .body) ts) × Unused (work .used) (rowsUsed kinds (sweep .body) ts)
+  rows-fresh over = (tt, λ n m. absurd (List·Memᴰ·not-nil m))
+  rows-fresh (passes x l) = rows-fresh l
+  rows-fresh {work} (takes {c = c} {ts = ts} f u e l) =
+      let k = rows-fresh l in
+      let rows = cardRows kinds (sweep .body) c in
+      let z : (n : ℕ) → In n (rowsUsed kinds (sweep .body) ts) → (work .used n ≡ false) × (mem n rows ≡ false) = λ n m. neither (work .used n) (mem n rows) (k .1 n m) in (
+        apart-append rows (rowsUsed kinds (sweep .body) ts) (f .apart) (k .0) (λ n i m. true≢false (sym (in-mem i) ∙ z n m .1)),
+        λ n m. ⊎-elim (f .unused n) (λ i. z n i .0) (List·Memᴰ·append-cases rows m),
+      )
+
+  -- the made facts: each taken choice's head atoms, in order
+  made-in-order : {work work′ : Work} {cs : List Choice} {ts : List Taken} → Sweeping work cs ts work′ → work′ .made ≡ work .made ++ factsMade (sweep .heads) ts
+  made-in-order {work} over = sym (append-nil (work .made))
+  made-in-order (passes x l) = made-in-order l
+  made-in-order {work} (takes {found = found} {ts = ts} f u e l) = made-in-order l ∙ append-assoc (work .made) (headFacts found (sweep .heads)) (factsMade (sweep .heads) ts)
+
+  -- the taken ones are among the choices, in their order, each once
+  taken-listed : {work work′ : Work} {cs : List Choice} {ts : List Taken} → Sweeping work cs ts work′ → {c : Choice} → In c (choicesOf ts) → In c cs
+  taken-listed over m = m
+  taken-listed (passes x l) m = List·Memᴰ·tail (taken-listed l m)
+  taken-listed (takes f u e l) m = ⊎-elim (λ q. List·Memᴰ·head q) (λ k. List·Memᴰ·tail (taken-listed l k)) (List·Memᴰ·cases-cons m)
+
+  taken-ascending : {work work′ : Work} {cs : List Choice} {ts : List Taken} → Sweeping work cs ts work′ → Ascending cs → Ascending (choicesOf ts)
+  taken-ascending over p = tt
+  taken-ascending (passes x l) p = taken-ascending l (p .1)
+  taken-ascending (takes f u e l) p = ((λ d m. p .0 d (taken-listed l m)), taken-ascending l (p .1))
+
+  fits-if-unused : {used used′ : Marks} {c : Choice} → Unused used (cardRows kinds (sweep .body) c) → FitsNow used′ c → FitsNow used c
+  fits-if-unused u f = record { ofKind = f .ofKind; apart = f .apart; unused = u; values = f .values; under = f .under; equal = f .equal; tested = f .tested }
+
+  -- with a card atom in the body, none with rows unused at last still fits
+  none-left : HasCard kinds (sweep .body) → {work work′ : Work} {cs : List Choice} {ts : List Taken} → Sweeping work cs ts work′ → {c : Choice} → In c cs → FitsNow (work′ .used) c → ⊥
+  none-left card over m h = List·Memᴰ·not-nil m
+  none-left card {work} (passes {ts = ts} x l) {c} m h = ⊎-elim (λ q. x (subst (FitsNow (work .used)) q early)) (λ k. none-left card l k h) (List·Memᴰ·cases-cons m)
+    where
+      early : FitsNow (work .used) c
+      early = fits-if-unused (λ n i. neither (work .used n) (mem n (rowsUsed kinds (sweep .body) ts)) (sym (used-after l n) ∙ h .unused n i) .0) h
+  none-left card {work} {work′} (takes {c = d} f u e l) {c} m h = ⊎-elim (λ q. taken-once (subst (FitsNow (work′ .used)) q h)) (λ k. none-left card l k h) (List·Memᴰ·cases-cons m)
+    where
+      taken-once : FitsNow (work′ .used) d → ⊥
+      taken-once g =
+          let r = card-row kinds (g .values) (sweep .body) d card (g .equal) in
+          let z = neither (goneAfter kinds (sweep .body) d (work .used) (r .0)) _ (sym (used-after l (r .0)) ∙ g .unused (r .0) (r .1)) .0 in
+          true≢false (sym (in-mem (r .1)) ∙ neither (work .used (r .0)) _ z .1)
+
+  -- without one, exactly those that fit are taken
+  notices-taken : AllNotices kinds (sweep .body) → {work work′ : Work} {cs : List Choice} {ts : List Taken} → Sweeping work cs ts work′ → (c : Choice)
+      → (In c cs × FitsNow (work .used) c) ↔ In c (choicesOf ts)
+  notices-taken all over c = ((λ h. h .0), λ m. absurd (List·Memᴰ·not-nil m))
+  notices-taken all {work} (passes x l) c =
+      let k = notices-taken all l c in (
+        (λ h. ⊎-elim (λ q. absurd (x (subst (FitsNow (work .used)) q (h .1)))) (λ m. k .0 (m, h .1)) (List·Memᴰ·cases-cons (h .0))),
+        λ m. let z = k .1 m in (List·Memᴰ·tail (z .0), z .1),
+      )
+  notices-taken all {work} (takes f u e l) c =
+      let k = notices-taken all l c in
+      let any : (used : Marks) → Unused used (cardRows kinds (sweep .body) c) = λ used. rw (no-card-row kinds (sweep .body) c all) (λ n m. absurd (List·Memᴰ·not-nil m)) in (
+        (λ h. ⊎-elim (λ q. List·Memᴰ·head q) (λ m. List·Memᴰ·tail (k .0 (m, fits-if-unused (any _) (h .1)))) (List·Memᴰ·cases-cons (h .0))),
+        λ m. ⊎-elim (λ q. (List·Memᴰ·head q, subst (FitsNow (work .used)) (sym q) f)) (λ i. let z = k .1 i in (List·Memᴰ·tail (z .0), fits-if-unused (any _) (z .1))) (List·Memᴰ·cases-cons m),
+      )
+
+  module _ (bound : BoundTests bindings (sweep .body) (sweep .tests)) where
+    -- the program does it
+    sweeping : (cs : List Choice) (work : Work) → (ts : List Taken) × Sweeping work cs ts (fold (takeIfFits kinds sweep bindings) work cs)
+    unfolding fold
+    sweeping [] work = ([], over)
+    sweeping (c ∷ cs) work = go _ (fit kinds (sweep .body) (sweep .tests) c now) refl (sweeping cs (takeIfFits kinds sweep bindings work c))
+      where
+        now : Known
+        now = record { bindings = bindings; gone = work .used }
+
+        go : (last : Work) (o : Option Known) → fit kinds (sweep .body) (sweep .tests) c now ≡ o → (ts : List Taken) × Sweeping (taken (sweep .heads) work o) cs ts last
+            → (ts : List Taken) × Sweeping work (c ∷ cs) ts last
+        go last none e w = (w .0, passes (none-exactly-if-not-fits kinds (sweep .body) (sweep .tests) c now bound .0 e) (w .1))
+        go last (some k) e w =
+            let g = fit-gives kinds (sweep .body) (sweep .tests) c now bound e in (
+              record { choice = c; bindings = k .bindings } ∷ w .0,
+              takes (fit-exactly-if-fits kinds (sweep .body) (sweep .tests) c now bound .0 (k, e)) (g .under)
+                  (fits-split kinds (sweep .tests) (valuesOf (k .bindings)) (sweep .body) c (work .used) .0 (g .fits) .1)
+                  (rw (g .gone) at (w .1)),
+            )
+
+-- ---- a whole sweep
+
+pub record SweepDone (kinds : List Kind) (board : Board) (sweep : Sweep) (bindings : Bindings) (work work′ : Work) : Type 0 where
+  -- "A sweep goes through all choices of its own body in order and takes each that fits with card rows unused so far"
+  pub takenOnes : List Taken
+  pub each : Sweeping kinds sweep bindings work (choices kinds board (sweep .body)) takenOnes work′
+  -- those taken, in order, each once
+  pub inOrder : Ascending (choicesOf takenOnes)
+  -- no card row twice, nor one used before; used afterwards are exactly these
+  pub apart : Apart (rowsUsed kinds (sweep .body) takenOnes)
+  pub unusedBefore : Unused (work .used) (rowsUsed kinds (sweep .body) takenOnes)
+  pub usedAfter : (n : ℕ) → work′ .used n ≡ (work .used n || mem n (rowsUsed kinds (sweep .body) takenOnes))
+  -- "then each taken choice's head atoms"
+  pub made : work′ .made ≡ work .made ++ factsMade (sweep .heads) takenOnes
+  -- works "once through all its choices": none with unused card rows still fits
+  pub noneLeft : HasCard kinds (sweep .body) → (c : Choice) → IsChoice kinds board (sweep .body) c → Fits kinds (sweep .body) (sweep .tests) c bindings (work′ .used) → ⊥
+  -- of an all-notice body exactly the fitting choices are taken
+  pub allTaken : AllNotices kinds (sweep .body) → (c : Choice)
+      → (IsChoice kinds board (sweep .body) c × Fits kinds (sweep .body) (sweep .tests) c bindings (work .used)) ↔ In c (choicesOf takenOnes)
+
+-- the sweeps "in file order, under the body's values"
+pub data SweepsDone (kinds : List Kind) (board : Board) (bindings : Bindings) : Work → List Sweep → Work → Type 0 where
+  none-left-over : {work : Work} → SweepsDone kinds board bindings work [] work
+  one-and-then : {work work′ work″ : Work} {sweep : Sweep} {sweeps : List Sweep}
+      → SweepDone kinds board sweep bindings work work′ → SweepsDone kinds board bindings work′ sweeps work″ → SweepsDone kinds board bindings work (sweep ∷ sweeps) work″
+
+module _ (kinds : List Kind) (board : Board) (bindings : Bindings) (body : List Atom) (binds : (x : ℕ) → isBound bindings x ≡ occursIn x body) where
+  -- A sweep of a rule, run under values for the variables of the rule's body, works once through all its choices.
+  pub sweep-done : (sweep : Sweep) → GoodSweep kinds body sweep → (work : Work) → SweepDone kinds board sweep bindings work (runSweep kinds board bindings work sweep)
+  unfolding runSweep
+  sweep-done sweep good work =
+      let bound : BoundTests bindings (sweep .body) (sweep .tests) =
+      good-tests _ _ (λ x h. ap (λ (t : Bool). t || occursIn x (sweep .body)) (binds x) ∙ h) (sweep .tests) (good .group .goodTests) in
+      let s = sweeping kinds sweep bindings bound (choices kinds board (sweep .body)) work in
+      let r = rows-fresh kinds sweep bindings (s .1) in
+      let listed : (c : Choice) → In c (choices kinds board (sweep .body)) ↔ IsChoice kinds board (sweep .body) c = choices-exactly kinds board (sweep .body) in
+      record {
+        takenOnes = s .0;
+        each = s .1;
+        inOrder = taken-ascending kinds sweep bindings (s .1) (choices-ascending kinds board (sweep .body));
+        apart = r .0;
+        unusedBefore = r .1;
+        usedAfter = used-after kinds sweep bindings (s .1);
+        made = made-in-order kinds sweep bindings (s .1);
+        noneLeft = λ card c i. none-left kinds sweep bindings card (s .1) (listed c .1 i);
+        allTaken = λ all c. let k = notices-taken kinds sweep bindings all (s .1) c in
+            ((λ h. k .0 (listed c .1 (h .0), h .1)), λ m. let z = k .1 m in (listed c .0 (z .0), z .1));
+      }
+
+  -- "Its sweeps then run in file order"
+  pub sweeps-done : (sweeps : List Sweep) → All (GoodSweep kinds body) sweeps → (work : Work) → SweepsDone kinds board bindings work sweeps (runSweeps kinds board bindings work sweeps)
+  unfolding runSweeps fold
+  sweeps-done [] good work = none-left-over
+  sweeps-done (sweep ∷ sweeps) good work = one-and-then (sweep-done sweep (good .0) work) (sweeps-done sweeps (good .1) (runSweep kinds board bindings work sweep))
