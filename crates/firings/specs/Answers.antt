@@ -145,7 +145,7 @@ agree-answers (constant v) n bindings =
     (λ q. rw q (nothing λ values u p. eqb-false n v q (sym p)))
 agree-answers (variable x) n bindings = agree-variable x n bindings (lookup x bindings) refl
 
-occurs-cons : (x : ℕ) (t : Term) (terms : List Term) → (occursInTerms x (t ∷ []) || occursInTerms x terms) ≡ occursInTerms x (t ∷ terms)
+pub occurs-cons : (x : ℕ) (t : Term) (terms : List Term) → (occursInTerms x (t ∷ []) || occursInTerms x terms) ≡ occursInTerms x (t ∷ terms)
 occurs-cons x (constant v) terms = refl
 occurs-cons x (variable y) terms = or-assoc (eqb x y) false (occursInTerms x terms)
 
@@ -195,6 +195,9 @@ FitsBy kinds tests (a ∷ atoms) (r ∷ rows) gone values =
 abbrev pub goneAfter : List Kind → List Atom → Choice → Marks → Marks
 goneAfter kinds atoms rows gone = λ n. gone n || mem n (cardRows kinds atoms rows)
 
+pub gone-nil : (kinds : List Kind) (gone : Marks) → goneAfter kinds [] [] gone ≡ gone
+gone-nil kinds gone = fun-ext λ n. or-false (gone n)
+
 pub gone-cons : (kinds : List Kind) (a : Atom) (atoms : List Atom) (r : Row) (rows : Choice) (gone : Marks)
     → goneAfter kinds atoms rows (takeRow (isCard kinds (a .kind)) (r .at) gone) ≡ goneAfter kinds (a ∷ atoms) (r ∷ rows) gone
 gone-cons kinds a atoms r rows gone =
@@ -241,7 +244,7 @@ pub fit-answers : (kinds : List Kind) (tests : List Test) (atoms : List Atom) (r
     (known .bindings) (fit kinds atoms tests rows known)
 unfolding fit
 fit-answers kinds tests [] [] known good =
-    answers-map (λ k h. h ∙ fun-ext λ n. sym (or-false (known .gone n))) (λ values. Iff·rfl) (λ x. refl)
+    answers-map (λ k h. h ∙ sym (gone-nil kinds (known .gone))) (λ values. Iff·rfl) (λ x. refl)
     (tests-answers tests known (good-tests _ _ (λ x h. sym (or-false (isBound (known .bindings) x)) ∙ h) tests good))
 fit-answers kinds tests [] (r ∷ rows) known good = nothing λ values u h. h
 fit-answers kinds tests (a ∷ atoms) [] known good = nothing λ values u h. h

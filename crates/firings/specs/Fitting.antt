@@ -61,36 +61,43 @@ equal-kinds values [] (r ∷ rows) h = tt
 equal-kinds values (a ∷ atoms) [] h = h
 equal-kinds values (a ∷ atoms) (r ∷ rows) h = (sym (ap (λ (f : Fact). f .kind) (h .0)), equal-kinds values atoms rows (h .1))
 
--- What an answer of `fit` gives. The values found are under those known before and make the choice fit; bound is what was bound or occurs in the
--- atoms; gone is what was gone or a row of a card atom; and other values that make the choice fit are the same wherever a variable is bound.
+-- What an answer of `fit` gives: the choice fits, and the values found are such values; bound is what was bound or occurs in the atoms; gone is what
+-- was gone or is a row of a card atom; and whatever values make the choice fit, they are those found.
 pub record FitGives (kinds : List Kind) (atoms : List Atom) (tests : List Test) (rows : Choice) (known k : Known) : Type 0 where
+  pub fits : Fits kinds atoms tests rows (known .bindings) (known .gone)
   pub under : Under (known .bindings) (valuesOf (k .bindings))
-  pub fits : FitsBy kinds tests atoms rows (known .gone) (valuesOf (k .bindings))
+  pub equal : AtomsEqual (valuesOf (k .bindings)) atoms rows
+  pub tested : TestsHold (valuesOf (k .bindings)) tests
   pub binds : (x : ℕ) → isBound (k .bindings) x ≡ (isBound (known .bindings) x || occursIn x atoms)
   pub gone : k .gone ≡ goneAfter kinds atoms rows (known .gone)
-  pub only : (values : Values) → Under (known .bindings) values → FitsBy kinds tests atoms rows (known .gone) values → Under (k .bindings) values
+  pub only : (w : Fits kinds atoms tests rows (known .bindings) (known .gone)) → Under (k .bindings) (w .values)
 
 module _ (kinds : List Kind) (atoms : List Atom) (tests : List Test) (rows : Choice) (known : Known) where
-  by-fits : (w : Fits kinds atoms tests rows (known .bindings) (known .gone)) → FitsBy kinds tests atoms rows (known .gone) (w .values)
+  pub by-fits : (w : Fits kinds atoms tests rows (known .bindings) (known .gone)) → FitsBy kinds tests atoms rows (known .gone) (w .values)
   by-fits w = fits-split kinds tests (w .values) atoms rows (known .gone) .1 ((w .apart, w .unused), w .equal, w .tested)
-
-  fits-by : (values : Values) → Under (known .bindings) values → FitsBy kinds tests atoms rows (known .gone) values → Fits kinds atoms tests rows (known .bindings) (known .gone)
-  fits-by values u h =
-      let w = fits-split kinds tests values atoms rows (known .gone) .0 h in
-      record { ofKind = equal-kinds values atoms rows (w .1); apart = w .0 .0; unused = w .0 .1; values = values; under = u; equal = w .1; tested = w .2 }
 
   module _ (bound : BoundTests (known .bindings) atoms tests) where
     pub fit-gives : {k : Known} → fit kinds atoms tests rows known ≡ some k → FitGives kinds atoms tests rows known k
     fit-gives {k} e =
+        let values = valuesOf (k .bindings) in
         let w = answer-is (rw e at (fit-answers kinds tests atoms rows known bound)) in
-        let own = w .1 .exactly (valuesOf (k .bindings)) .0 (under-own (k .bindings)) in
-        record { under = own .0; fits = own .1; binds = w .1 .binds; gone = w .0; only = λ values u h. w .1 .exactly values .1 (u, h) }
+        let own = w .1 .exactly values .0 (under-own (k .bindings)) in
+        let f = fits-split kinds tests values atoms rows (known .gone) .0 (own .1) in
+        record {
+          fits = record { ofKind = equal-kinds values atoms rows (f .1); apart = f .0 .0; unused = f .0 .1; values = values; under = own .0; equal = f .1; tested = f .2 };
+          under = own .0;
+          equal = f .1;
+          tested = f .2;
+          binds = w .1 .binds;
+          gone = w .0;
+          only = λ v. w .1 .exactly (v .values) .1 (v .under, by-fits v);
+        }
 
     -- "It fits if each row has its atom's kind, no two card atoms have one row, some values of the variables make every atom equal its row, and the
     -- tests hold": exactly then `fit` has an answer.
     pub fit-exactly-if-fits : ((k : Known) × (fit kinds atoms tests rows known ≡ some k)) ↔ Fits kinds atoms tests rows (known .bindings) (known .gone)
     fit-exactly-if-fits = (
-      (λ p. let g = fit-gives (p .1) in fits-by (valuesOf (p .0 .bindings)) (g .under) (g .fits)),
+      (λ p. fit-gives (p .1) .fits),
       λ w. answered (fit-answers kinds tests atoms rows known bound) (w .values) (w .under) (by-fits w),
     )
 
@@ -107,4 +114,4 @@ module _ (kinds : List Kind) (atoms : List Atom) (tests : List Test) (rows : Cho
         → (x : ℕ) → occursIn x atoms ≡ true → w .values x ≡ valuesOf (k .bindings) x
     found-values-only {k} e w x o =
         let g = fit-gives e in
-        under-bound (k .bindings) (w .values) (g .only (w .values) (w .under) (by-fits w)) x (g .binds x ∙ rw o (or-true (isBound (known .bindings) x)))
+        under-bound (k .bindings) (w .values) (g .only w) x (g .binds x ∙ rw o (or-true (isBound (known .bindings) x)))

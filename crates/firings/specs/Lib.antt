@@ -3,3 +3,5 @@ pub mod Answers
 pub mod Fitting
 pub mod Choosing
 pub mod Sweeping
+pub mod Counting
+pub mod Deriving

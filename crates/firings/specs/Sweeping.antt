@@ -9,12 +9,12 @@ use mathlib.Core.List.{List, [], _∷_, _++_, map, append-assoc, append-nil, Lis
 use Rattle.meaning.specs.Basics.{fold, mem, In, All}
 use Rattle.meaning.specs.Facts.{Kind, Fact, Board, isCard}
 use Rattle.meaning.specs.Rules.{Atom, Sweep, Values, occursIn}
-use Rattle.meaning.specs.Fit.{Choice, Marks, Bindings, valuesOf, IsChoice, cardRows, Apart, Unused, AtomsEqual, Under, Fits, Known, fit, choices}
+use Rattle.meaning.specs.Fit.{Choice, Marks, Bindings, IsChoice, cardRows, Apart, Unused, AtomsEqual, Fits, Known, fit, choices}
 use Rattle.meaning.specs.Firing.{Work, headFacts, taken, takeIfFits, runSweep, runSweeps}
 use Rattle.meaning.specs.WellFormed.{HasCard, GoodSweep}
 use Rattle.firings.specs.Basics.{cases, neither, in-mem, mem-append}
-use Rattle.firings.specs.Answers.{isBound, BoundTests, goneAfter, good-tests}
-use Rattle.firings.specs.Fitting.{FitGives, fit-gives, fits-split, fit-exactly-if-fits, none-exactly-if-not-fits}
+use Rattle.firings.specs.Answers.{isBound, BoundTests, good-tests}
+use Rattle.firings.specs.Fitting.{FitGives, fit-gives, none-exactly-if-not-fits}
 use Rattle.firings.specs.Choosing.{Ascending, choices-exactly, choices-ascending}
 
 -- ---- what a sweep takes
@@ -67,55 +67,51 @@ module _ (kinds : List Kind) (sweep : Sweep) (bindings : Bindings) where
   abbrev pub FitsNow : Marks → Choice → Type 0
   FitsNow used c = Fits kinds (sweep .body) (sweep .tests) c bindings used
 
-  abbrev pub workWith : Work → Taken → Work
-  workWith work t = record { used = goneAfter kinds (sweep .body) (t .choice) (work .used); made = work .made ++ headFacts (t .bindings) (sweep .heads) }
-
   -- From the work through the choices, with those taken in order, to the work at last: a choice that does not fit is passed over, and one that fits
-  -- is taken, with values that make it fit.
+  -- is taken, with the values that make it fit.
   pub data Sweeping : Work → List Choice → List Taken → Work → Type 0 where
     over : {work : Work} → Sweeping work [] [] work
     passes : {work work′ : Work} {c : Choice} {cs : List Choice} {ts : List Taken}
         → (FitsNow (work .used) c → ⊥) → Sweeping work cs ts work′ → Sweeping work (c ∷ cs) ts work′
-    takes : {work work′ : Work} {c : Choice} {found : Bindings} {cs : List Choice} {ts : List Taken}
-        → FitsNow (work .used) c → Under bindings (valuesOf found) → AtomsEqual (valuesOf found) (sweep .body) c
-        → Sweeping (workWith work (record { choice = c; bindings = found })) cs ts work′
-        → Sweeping work (c ∷ cs) (record { choice = c; bindings = found } ∷ ts) work′
+    takes : {work work′ : Work} {c : Choice} {k : Known} {cs : List Choice} {ts : List Taken}
+        → FitGives kinds (sweep .body) (sweep .tests) c (record { bindings = bindings; gone = work .used }) k → Sweeping (taken (sweep .heads) work (some k)) cs ts work′
+        → Sweeping work (c ∷ cs) (record { choice = c; bindings = k .bindings } ∷ ts) work′
 
   -- used afterwards: what was used before, and the rows of the taken choices
   used-after : {work work′ : Work} {cs : List Choice} {ts : List Taken} → Sweeping work cs ts work′ → (n : ℕ) → work′ .used n ≡ (work .used n || mem n (rowsUsed kinds (sweep .body) ts))
   used-after {work} over n = sym (or-false (work .used n))
   used-after (passes x l) n = used-after l n
-  used-after {work} (takes {c = c} {ts = ts} f u e l) n =
-      used-after l n ∙ or-assoc (work .used n) (mem n (cardRows kinds (sweep .body) c)) (mem n (rowsUsed kinds (sweep .body) ts)) ∙ sym (rw (mem-append n (cardRows kinds (sweep .body) c)))
+  used-after {work} (takes {c = c} {ts = ts} g l) n =
+      rw (used-after l n, g .gone, mem-append n (cardRows kinds (sweep .body) c)) (or-assoc (work .used n) (mem n (cardRows kinds (sweep .body) c)) (mem n (rowsUsed kinds (sweep .body) ts)))
 
   -- no card row is used twice, nor one that was used before
   rows-fresh : {work work′ : Work} {cs : List Choice} {ts : List Taken} → Sweeping work cs ts work′ → Apart (rowsUsed kinds (sweep .body) ts) × Unused (work .used) (rowsUsed kinds (sweep .body) ts)
   rows-fresh over = (tt, λ n m. absurd (List·Memᴰ·not-nil m))
   rows-fresh (passes x l) = rows-fresh l
-  rows-fresh {work} (takes {c = c} {ts = ts} f u e l) =
+  rows-fresh {work} (takes {c = c} {ts = ts} g l) =
       let k = rows-fresh l in
       let rows = cardRows kinds (sweep .body) c in
-      let z : (n : ℕ) → In n (rowsUsed kinds (sweep .body) ts) → (work .used n ≡ false) × (mem n rows ≡ false) = λ n m. neither (work .used n) (mem n rows) (k .1 n m) in (
-        apart-append rows (rowsUsed kinds (sweep .body) ts) (f .apart) (k .0) (λ n i m. true≢false (sym (in-mem i) ∙ z n m .1)),
-        λ n m. ⊎-elim (f .unused n) (λ i. z n i .0) (List·Memᴰ·append-cases rows m),
+      let z : (n : ℕ) → In n (rowsUsed kinds (sweep .body) ts) → (work .used n ≡ false) × (mem n rows ≡ false) = λ n m. neither (work .used n) (mem n rows) (rw (g .gone) at (k .1 n m)) in (
+        apart-append rows (rowsUsed kinds (sweep .body) ts) (g .fits .apart) (k .0) (λ n i m. true≢false (sym (in-mem i) ∙ z n m .1)),
+        λ n m. ⊎-elim (g .fits .unused n) (λ i. z n i .0) (List·Memᴰ·append-cases rows m),
       )
 
   -- the made facts: each taken choice's head atoms, in order
   made-in-order : {work work′ : Work} {cs : List Choice} {ts : List Taken} → Sweeping work cs ts work′ → work′ .made ≡ work .made ++ factsMade (sweep .heads) ts
   made-in-order {work} over = sym (append-nil (work .made))
   made-in-order (passes x l) = made-in-order l
-  made-in-order {work} (takes {found = found} {ts = ts} f u e l) = made-in-order l ∙ append-assoc (work .made) (headFacts found (sweep .heads)) (factsMade (sweep .heads) ts)
+  made-in-order {work} (takes {k = k} {ts = ts} g l) = made-in-order l ∙ append-assoc (work .made) (headFacts (k .bindings) (sweep .heads)) (factsMade (sweep .heads) ts)
 
   -- the taken ones are among the choices, in their order, each once
   taken-listed : {work work′ : Work} {cs : List Choice} {ts : List Taken} → Sweeping work cs ts work′ → {c : Choice} → In c (choicesOf ts) → In c cs
   taken-listed over m = m
   taken-listed (passes x l) m = List·Memᴰ·tail (taken-listed l m)
-  taken-listed (takes f u e l) m = ⊎-elim (λ q. List·Memᴰ·head q) (λ k. List·Memᴰ·tail (taken-listed l k)) (List·Memᴰ·cases-cons m)
+  taken-listed (takes g l) m = ⊎-elim (λ q. List·Memᴰ·head q) (λ k. List·Memᴰ·tail (taken-listed l k)) (List·Memᴰ·cases-cons m)
 
   taken-ascending : {work work′ : Work} {cs : List Choice} {ts : List Taken} → Sweeping work cs ts work′ → Ascending cs → Ascending (choicesOf ts)
   taken-ascending over p = tt
   taken-ascending (passes x l) p = taken-ascending l (p .1)
-  taken-ascending (takes f u e l) p = ((λ d m. p .0 d (taken-listed l m)), taken-ascending l (p .1))
+  taken-ascending (takes g l) p = ((λ d m. p .0 d (taken-listed l m)), taken-ascending l (p .1))
 
   fits-if-unused : {used used′ : Marks} {c : Choice} → Unused used (cardRows kinds (sweep .body) c) → FitsNow used′ c → FitsNow used c
   fits-if-unused u f = record { ofKind = f .ofKind; apart = f .apart; unused = u; values = f .values; under = f .under; equal = f .equal; tested = f .tested }
@@ -123,17 +119,17 @@ module _ (kinds : List Kind) (sweep : Sweep) (bindings : Bindings) where
   -- with a card atom in the body, none with rows unused at last still fits
   none-left : HasCard kinds (sweep .body) → {work work′ : Work} {cs : List Choice} {ts : List Taken} → Sweeping work cs ts work′ → {c : Choice} → In c cs → FitsNow (work′ .used) c → ⊥
   none-left card over m h = List·Memᴰ·not-nil m
-  none-left card {work} (passes {ts = ts} x l) {c} m h = ⊎-elim (λ q. x (subst (FitsNow (work .used)) q early)) (λ k. none-left card l k h) (List·Memᴰ·cases-cons m)
+  none-left card {work} (passes {ts = ts} x l) {c} m h = ⊎-elim (λ q. x (subst (FitsNow (work .used)) q early)) (λ i. none-left card l i h) (List·Memᴰ·cases-cons m)
     where
       early : FitsNow (work .used) c
       early = fits-if-unused (λ n i. neither (work .used n) (mem n (rowsUsed kinds (sweep .body) ts)) (sym (used-after l n) ∙ h .unused n i) .0) h
-  none-left card {work} {work′} (takes {c = d} f u e l) {c} m h = ⊎-elim (λ q. taken-once (subst (FitsNow (work′ .used)) q h)) (λ k. none-left card l k h) (List·Memᴰ·cases-cons m)
+  none-left card {work} {work′} (takes {c = d} {k = k} g l) {c} m h = ⊎-elim (λ q. taken-once (subst (FitsNow (work′ .used)) q h)) (λ i. none-left card l i h) (List·Memᴰ·cases-cons m)
     where
       taken-once : FitsNow (work′ .used) d → ⊥
-      taken-once g =
-          let r = card-row kinds (g .values) (sweep .body) d card (g .equal) in
-          let z = neither (goneAfter kinds (sweep .body) d (work .used) (r .0)) _ (sym (used-after l (r .0)) ∙ g .unused (r .0) (r .1)) .0 in
-          true≢false (sym (in-mem (r .1)) ∙ neither (work .used (r .0)) _ z .1)
+      taken-once f =
+          let r = card-row kinds (f .values) (sweep .body) d card (f .equal) in
+          let z : k .gone (r .0) ≡ false = neither _ _ (sym (used-after l (r .0)) ∙ f .unused (r .0) (r .1)) .0 in
+          true≢false (sym (in-mem (r .1)) ∙ neither (work .used (r .0)) _ (rw (g .gone) at z) .1)
 
   -- without one, exactly those that fit are taken
   notices-taken : AllNotices kinds (sweep .body) → {work work′ : Work} {cs : List Choice} {ts : List Taken} → Sweeping work cs ts work′ → (c : Choice)
@@ -144,11 +140,11 @@ module _ (kinds : List Kind) (sweep : Sweep) (bindings : Bindings) where
         (λ h. ⊎-elim (λ q. absurd (x (subst (FitsNow (work .used)) q (h .1)))) (λ m. k .0 (m, h .1)) (List·Memᴰ·cases-cons (h .0))),
         λ m. let z = k .1 m in (List·Memᴰ·tail (z .0), z .1),
       )
-  notices-taken all {work} (takes f u e l) c =
+  notices-taken all {work} (takes g l) c =
       let k = notices-taken all l c in
       let any : (used : Marks) → Unused used (cardRows kinds (sweep .body) c) = λ used. rw (no-card-row kinds (sweep .body) c all) (λ n m. absurd (List·Memᴰ·not-nil m)) in (
         (λ h. ⊎-elim (λ q. List·Memᴰ·head q) (λ m. List·Memᴰ·tail (k .0 (m, fits-if-unused (any _) (h .1)))) (List·Memᴰ·cases-cons (h .0))),
-        λ m. ⊎-elim (λ q. (List·Memᴰ·head q, subst (FitsNow (work .used)) (sym q) f)) (λ i. let z = k .1 i in (List·Memᴰ·tail (z .0), fits-if-unused (any _) (z .1))) (List·Memᴰ·cases-cons m),
+        λ m. ⊎-elim (λ q. (List·Memᴰ·head q, subst (FitsNow (work .used)) (sym q) (g .fits))) (λ i. let z = k .1 i in (List·Memᴰ·tail (z .0), fits-if-unused (any _) (z .1))) (List·Memᴰ·cases-cons m),
       )
 
   module _ (bound : BoundTests bindings (sweep .body) (sweep .tests)) where
@@ -164,13 +160,7 @@ module _ (kinds : List Kind) (sweep : Sweep) (bindings : Bindings) where
         go : (last : Work) (o : Option Known) → fit kinds (sweep .body) (sweep .tests) c now ≡ o → (ts : List Taken) × Sweeping (taken (sweep .heads) work o) cs ts last
             → (ts : List Taken) × Sweeping work (c ∷ cs) ts last
         go last none e w = (w .0, passes (none-exactly-if-not-fits kinds (sweep .body) (sweep .tests) c now bound .0 e) (w .1))
-        go last (some k) e w =
-            let g = fit-gives kinds (sweep .body) (sweep .tests) c now bound e in (
-              record { choice = c; bindings = k .bindings } ∷ w .0,
-              takes (fit-exactly-if-fits kinds (sweep .body) (sweep .tests) c now bound .0 (k, e)) (g .under)
-                  (fits-split kinds (sweep .tests) (valuesOf (k .bindings)) (sweep .body) c (work .used) .0 (g .fits) .1)
-                  (rw (g .gone) at (w .1)),
-            )
+        go last (some k) e w = (record { choice = c; bindings = k .bindings } ∷ w .0, takes (fit-gives kinds (sweep .body) (sweep .tests) c now bound e) (w .1))
 
 -- ---- a whole sweep
 
