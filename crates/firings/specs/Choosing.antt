@@ -14,7 +14,7 @@ use Rattle.meaning.specs.Rules.{Atom, Test}
 use Rattle.meaning.specs.Fit.{Row, Choice, IsChoice, Fits, Before, Known, fit, numbered, spread, choices, firstFit}
 use Rattle.firings.specs.Basics.{at-in}
 use Rattle.firings.specs.Answers.{BoundTests}
-use Rattle.firings.specs.Fitting.{fit-exactly-if-fits, none-exactly-if-not-fits}
+use Rattle.firings.specs.Fitting.{FitGives, fit-gives, none-exactly-if-not-fits}
 
 -- ---- exactly the choices
 
@@ -157,7 +157,7 @@ pub record FirstFit (kinds : List Kind) (board : Board) (atoms : List Atom) (tes
   pub choice : Choice
   pub isChoice : IsChoice kinds board atoms choice
   pub answer : fit kinds atoms tests choice known ≡ some k
-  pub fits : Fits kinds atoms tests choice (known .bindings) (known .gone)
+  pub gives : FitGives kinds atoms tests choice known k
   pub noneBefore : (d : Choice) → IsChoice kinds board atoms d → Before d choice → Fits kinds atoms tests d (known .bindings) (known .gone) → ⊥
 
 module _ (kinds : List Kind) (board : Board) (atoms : List Atom) (tests : List Test) (known : Known) (bound : BoundTests (known .bindings) atoms tests) where
@@ -170,7 +170,7 @@ module _ (kinds : List Kind) (board : Board) (atoms : List Atom) (tests : List T
         choice = w .0;
         isChoice = choices-exactly kinds board atoms (w .0) .0 (w .1);
         answer = w .2;
-        fits = fit-exactly-if-fits kinds atoms tests (w .0) known bound .0 (k, w .2);
+        gives = fit-gives kinds atoms tests (w .0) known bound (w .2);
         noneBefore = λ d c b. none-exactly-if-not-fits kinds atoms tests d known bound .0 (w .3 d (choices-exactly kinds board atoms d .1 c) b);
       }
 

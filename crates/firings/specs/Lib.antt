@@ -5,3 +5,4 @@ pub mod Choosing
 pub mod Sweeping
 pub mod Counting
 pub mod Deriving
+pub mod Firings

@@ -1,0 +1,216 @@
+-- One firing: the lowest-numbered rule with a fitting choice, its first choice, its sweeps, the board after, and that Meld 2.0 allows it; the end FULL;
+-- and quiet exactly if no choice of rows fits any rule. All three come from one law, `look`, on what `fireFrom` finds.
+use mathlib.Core.Path.{_≡_, refl, sym, ap, _∙_, subst}
+use mathlib.Core.Logic.{_⊎_, inl, inr, _↔_, ⊎-elim}
+use Prim.Native.Nat.{ℕ, zero, suc, _+_, _<_}
+use native.Mathlib.Nat.{add-zero, zero-add}
+use native.Mathlib.Omega.{arith}
+use mathlib.Core.Bool.{Bool, true, false}
+use mathlib.Core.Option.{Option, none, some, Option·some-injective}
+use mathlib.Core.List.{List, [], _∷_, _++_, map, Memᴰ·map}
+use lib.ListN.{getElem?}
+use Rattle.meaning.specs.Basics.{All}
+use Rattle.meaning.specs.Facts.{Kind, Fact, Board}
+use Rattle.meaning.specs.Rules.{Rule, Book}
+use Rattle.meaning.specs.Fit.{Choice, noMarks, IsChoice, Fits, Known, nothingKnown, firstFit}
+use Rattle.meaning.specs.Firing.{Work, ruleWork, bodyWork, unusedRows, ofClass, boardAfter, hasRoom, Firing, quiet, full, fired, settle, fireRule, fireFrom, fire}
+use Rattle.meaning.specs.Meld.{count, Apply, Step, rule-app, ruleForm}
+use Rattle.meaning.specs.WellFormed.{GoodRule, GoodBook}
+use Rattle.firings.specs.Basics.{cases, all-at, at-in}
+use Rattle.firings.specs.Choosing.{FirstFit, first-fit-is-first, none-first-exactly-if-none-fits}
+use Rattle.firings.specs.Sweeping.{SweepsDone, sweeps-done}
+use Rattle.firings.specs.Counting.{count-append, usedRows, unused-and-used}
+use Rattle.firings.specs.Deriving.{rule-applied}
+
+-- no choice of rows fits the rule
+abbrev pub NoneFits : List Kind → Board → Rule → Type 0
+NoneFits kinds board rule = (c : Choice) → IsChoice kinds board (rule .body) c → Fits kinds (rule .body) (rule .tests) c [] noMarks → ⊥
+
+-- ---- what is found
+
+-- "the lowest-numbered rule with a fitting choice, and its first one"
+pub record FirstRule (kinds : List Kind) (board : Board) (rules : List Rule) : Type 0 where
+  pub place : ℕ
+  pub rule : Rule
+  pub listed : getElem? rules place ≡ some rule
+  pub noneEarlier : (j : ℕ) (earlier : Rule) → j < place → getElem? rules j ≡ some earlier → NoneFits kinds board earlier
+  pub known : Known
+  pub first : FirstFit kinds board (rule .body) (rule .tests) nothingKnown known
+
+-- either no rule fits, and it is quiet; or the first rule that fits is settled
+abbrev Look : List Kind → Board → ℕ → List Rule → Firing → Type 0
+Look kinds board n rules found =
+    (All (NoneFits kinds board) rules × (found ≡ quiet))
+    ⊎ ((w : FirstRule kinds board rules) × (found ≡ settle kinds board (n + w .place) (ruleWork kinds board (w .rule) (w .known))))
+
+module _ (kinds : List Kind) (board : Board) where
+  later : (n : ℕ) (rule : Rule) (rules : List Rule) (found : Firing) → NoneFits kinds board rule → Look kinds board (suc n) rules found → Look kinds board n (rule ∷ rules) found
+  later n rule rules found h (inl w) = inl ((h, w .0), w .1)
+  later n rule rules found h (inr w) = inr (record {
+    place = suc (w .0 .place);
+    rule = w .0 .rule;
+    listed = w .0 .listed;
+    noneEarlier = λ j. elim j [
+      zero ↦ λ earlier l e. subst (NoneFits kinds board) (Option·some-injective rule earlier e) h
+    | suc i ↦ λ earlier l e. w .0 .noneEarlier i earlier (omega arith) e
+    ];
+    known = w .0 .known;
+    first = w .0 .first;
+  }, w .1 ∙ ap (λ (m : ℕ). settle kinds board m (ruleWork kinds board (w .0 .rule) (w .0 .known))) (omega arith))
+
+  look : (n : ℕ) (rules : List Rule) → All (GoodRule kinds) rules → Look kinds board n rules (fireFrom kinds board n rules)
+  unfolding fireFrom
+  look n [] good = inl (tt, refl)
+  look n (rule ∷ rules) good = go (firstFit kinds board (rule .body) (rule .tests) nothingKnown) refl (look (suc n) rules (good .1))
+    where
+      go : (o : Option Known) → firstFit kinds board (rule .body) (rule .tests) nothingKnown ≡ o → Look kinds board (suc n) rules (fireFrom kinds board (suc n) rules)
+          → Look kinds board n (rule ∷ rules) (fireRule kinds board n rule o (fireFrom kinds board (suc n) rules))
+      go none e w = later n rule rules _ (none-first-exactly-if-none-fits kinds board (rule .body) (rule .tests) nothingKnown (good .0 .group .goodTests) .0 e) w
+      go (some k) e w = inr (record {
+        place = 0;
+        rule = rule;
+        listed = refl;
+        noneEarlier = λ j earlier l. absurd (omega arith);
+        known = k;
+        first = first-fit-is-first kinds board (rule .body) (rule .tests) nothingKnown (good .0 .group .goodTests) e;
+      }, ap (λ (m : ℕ). settle kinds board m (ruleWork kinds board rule k)) (sym (add-zero n)))
+
+module _ (kinds : List Kind) (board : Board) (n : ℕ) (work : Work) where
+  settle-fired : {r : ℕ} {board′ : Board} → settle kinds board n work ≡ fired r board′ → (r ≡ n) × (board′ ≡ boardAfter kinds board work) × (hasRoom board′ ≡ true)
+  settle-fired {r} {board′} h =
+      cases (hasRoom (boardAfter kinds board work))
+      (λ y. let k : fired n (boardAfter kinds board work) ≡ fired r board′ = rw y at h in
+      let e : board′ ≡ boardAfter kinds board work = cc in
+      ((cc), e, rw e y))
+      (λ y. let k : full ≡ fired r board′ = rw y at h in let z : _≡_ {A = ℕ} 0 1 = cc in absurd (omega arith))
+
+  settle-full : settle kinds board n work ≡ full → hasRoom (boardAfter kinds board work) ≡ false
+  settle-full h =
+      cases (hasRoom (boardAfter kinds board work))
+      (λ y. let k : fired n (boardAfter kinds board work) ≡ full = rw y at h in let z : _≡_ {A = ℕ} 0 1 = cc in absurd (omega arith))
+      (λ y. y)
+
+  settle-not-quiet : settle kinds board n work ≡ quiet → ⊥
+  settle-not-quiet h =
+      cases (hasRoom (boardAfter kinds board work))
+      (λ y. let k : fired n (boardAfter kinds board work) ≡ quiet = rw y at h in let z : _≡_ {A = ℕ} 0 1 = cc in omega arith)
+      (λ y. let k : full ≡ quiet = rw y at h in let z : _≡_ {A = ℕ} 0 1 = cc in omega arith)
+
+-- ---- allowed by Meld 2.0
+
+-- "Each firing of a book's run is one that Meld 2.0 Semantics allows": Γ; Δ ⇒ Γ′; Δ′; Ξ, where Γ′ is exactly the notices made, Δ′ the cards made and Ξ
+-- the cards used. "Cards before, less cards used, plus cards made, are the cards after, with equal cards counted apart."
+pub record MeldStep (book : Book) (board : Board) (rule : Rule) (work : Work) (board′ : Board) : Type 0 where
+  pub Γ′ : List Fact
+  pub Δ′ : List Fact
+  pub Ξ : List Fact
+  pub noticesMade : Γ′ ≡ ofClass (book .kinds) false (work .made)
+  pub cardsMade : Δ′ ≡ ofClass (book .kinds) true (work .made)
+  pub cardsUsed : Ξ ≡ usedRows 0 (work .used) (board .cards)
+  pub applied : Apply (board .notices) (board .cards) (ruleForm (book .kinds) rule) Γ′ Δ′ Ξ
+  pub stepped : Step (board .notices) (board .cards) (map (ruleForm (book .kinds)) (book .rules)) Γ′ Δ′ Ξ
+  -- "New cards: unused rows in old order, then made cards. Notices: the old ones, then made ones"
+  pub cards : board′ .cards ≡ unusedRows 0 (work .used) (board .cards) ++ Δ′
+  pub notices : board′ .notices ≡ board .notices ++ Γ′
+  pub cardCounts : (f : Fact) → count f (board .cards) + count f Δ′ ≡ count f (board′ .cards) + count f Ξ
+  pub noticeCounts : (f : Fact) → count f (board .notices) + count f Γ′ ≡ count f (board′ .notices)
+
+meld-step : (book : Book) (board : Board) (rule : Rule) (number : ℕ) (work : Work) → getElem? (book .rules) number ≡ some rule
+    → Apply (board .notices) (board .cards) (ruleForm (book .kinds) rule) (ofClass (book .kinds) false (work .made)) (ofClass (book .kinds) true (work .made)) (usedRows 0 (work .used) (board .cards))
+    → MeldStep book board rule work (boardAfter (book .kinds) board work)
+meld-step book board rule number work listed applied =
+    let Γ′ = ofClass (book .kinds) false (work .made) in
+    let Δ′ = ofClass (book .kinds) true (work .made) in
+    let left = unusedRows 0 (work .used) (board .cards) in
+    record {
+      Γ′ = Γ′;
+      Δ′ = Δ′;
+      Ξ = usedRows 0 (work .used) (board .cards);
+      noticesMade = refl;
+      cardsMade = refl;
+      cardsUsed = refl;
+      applied = applied;
+      stepped = rule-app (Memᴰ·map (ruleForm (book .kinds)) (at-in (book .rules) number listed)) applied;
+      cards = refl;
+      notices = refl;
+      cardCounts = λ f. omega (arith, count-append f left Δ′, unused-and-used 0 (work .used) (board .cards) .counts f);
+      noticeCounts = λ f. sym (count-append f (board .notices) Γ′);
+    }
+
+-- ---- a firing
+
+pub record FiringIs (book : Book) (board : Board) (number : ℕ) (board′ : Board) : Type 0 where
+  -- "The firing is that of the lowest-numbered rule with a fitting choice"
+  pub rule : Rule
+  pub listed : getElem? (book .rules) number ≡ some rule
+  pub noneEarlier : (j : ℕ) (earlier : Rule) → j < number → getElem? (book .rules) j ≡ some earlier → NoneFits (book .kinds) board earlier
+  -- "and its first one": the choice, its values and the card rows that it uses
+  pub known : Known
+  pub first : FirstFit (book .kinds) board (rule .body) (rule .tests) nothingKnown known
+  -- "Its sweeps then run in file order, under the body's values."
+  pub work : Work
+  pub swept : SweepsDone (book .kinds) board (known .bindings) (bodyWork rule known) (rule .sweeps) work
+  -- the board after has room
+  pub after : board′ ≡ boardAfter (book .kinds) board work
+  pub room : hasRoom board′ ≡ true
+  -- and Meld allows the step
+  pub meld : MeldStep book board rule work board′
+
+-- "the run ends with FULL and the firing hasn't happened; later rules aren't tried": the first rule with a fitting choice would overfill the board
+pub record FullIs (book : Book) (board : Board) : Type 0 where
+  pub would : FirstRule (book .kinds) board (book .rules)
+  pub swept : SweepsDone (book .kinds) board (would .known .bindings) (bodyWork (would .rule) (would .known)) (would .rule .sweeps) (ruleWork (book .kinds) board (would .rule) (would .known))
+  pub noRoom : hasRoom (boardAfter (book .kinds) board (ruleWork (book .kinds) board (would .rule) (would .known))) ≡ false
+
+module _ (book : Book) (good : GoodBook book) (board : Board) where
+  swept-by : (w : FirstRule (book .kinds) board (book .rules))
+      → SweepsDone (book .kinds) board (w .known .bindings) (bodyWork (w .rule) (w .known)) (w .rule .sweeps) (ruleWork (book .kinds) board (w .rule) (w .known))
+  swept-by w =
+      let r = all-at (GoodRule (book .kinds)) (book .rules) (w .place) (good .rules) (w .listed) in
+      sweeps-done (book .kinds) board (w .known .bindings) (w .rule .body) (w .first .gives .binds) (w .rule .sweeps) (r .sweeps) (bodyWork (w .rule) (w .known))
+
+  firing-by : {number : ℕ} {board′ : Board} (w : FirstRule (book .kinds) board (book .rules))
+      → settle (book .kinds) board (0 + w .place) (ruleWork (book .kinds) board (w .rule) (w .known)) ≡ fired number board′ → FiringIs book board number board′
+  firing-by {number} w h =
+      let work = ruleWork (book .kinds) board (w .rule) (w .known) in
+      let s = settle-fired (book .kinds) board (0 + w .place) work h in
+      let p : number ≡ w .place = s .0 ∙ zero-add (w .place) in
+      let swept = swept-by w in
+      record {
+        rule = w .rule;
+        listed = rw p (w .listed);
+        noneEarlier = λ j earlier l. w .noneEarlier j earlier (omega arith);
+        known = w .known;
+        first = w .first;
+        work = work;
+        swept = swept;
+        after = s .1;
+        room = s .2;
+        meld = rw (s .1) (meld-step book board (w .rule) (w .place) work (w .listed)
+            (rule-applied (book .kinds) board (w .rule) (w .first .choice) (w .known) work (w .first .isChoice) (w .first .gives) swept));
+      }
+
+  -- "Among possible firings it takes the first rule's first fit in document 01's order", and each firing "is one that Meld 2.0 Semantics allows".
+  pub firing-is : {number : ℕ} {board′ : Board} → fire book board ≡ fired number board′ → FiringIs book board number board′
+  unfolding fire
+  firing-is {number} {board′} h =
+      ⊎-elim (λ w. let k : quiet ≡ fired number board′ = sym (w .1) ∙ h in let z : _≡_ {A = ℕ} 0 1 = cc in absurd (omega arith))
+      (λ w. firing-by (w .0) (sym (w .1) ∙ h)) (look (book .kinds) board 0 (book .rules) (good .rules))
+
+  -- "If that exceeds 256 cards or 128 notices, the run ends with FULL and the firing hasn't happened; later rules aren't tried."
+  pub full-is : fire book board ≡ full → FullIs book board
+  unfolding fire
+  full-is h =
+      ⊎-elim (λ w. let k : quiet ≡ full = sym (w .1) ∙ h in let z : _≡_ {A = ℕ} 0 1 = cc in absurd (omega arith))
+      (λ w. record { would = w .0; swept = swept-by (w .0); noRoom = settle-full (book .kinds) board (0 + w .0 .place) _ (sym (w .1) ∙ h) })
+      (look (book .kinds) board 0 (book .rules) (good .rules))
+
+  -- "QUIET if no rule fits": quiet "exactly if no choice of rows fits any rule".
+  pub quiet-exactly-if-none-fits : (fire book board ≡ quiet) ↔ All (NoneFits (book .kinds) board) (book .rules)
+  unfolding fire
+  quiet-exactly-if-none-fits =
+      let l = look (book .kinds) board 0 (book .rules) (good .rules) in (
+        (λ h. ⊎-elim (λ w. w .0) (λ w. absurd (settle-not-quiet (book .kinds) board (0 + w .0 .place) _ (sym (w .1) ∙ h))) l),
+        λ h. ⊎-elim (λ w. w .1)
+            (λ w. absurd (all-at (NoneFits (book .kinds) board) (book .rules) (w .0 .place) h (w .0 .listed) (w .0 .first .choice) (w .0 .first .isChoice) (w .0 .first .gives .fits))) l,
+      )
