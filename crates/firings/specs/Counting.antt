@@ -35,8 +35,11 @@ same-equal f g h =
     let w = both (eqb (f .kind) (g .kind)) (sameNumbers (f .numbers) (g .numbers)) h in
     equal-facts f g (eqb-true (f .kind) (g .kind) (w .0)) (same-numbers-equal (f .numbers) (g .numbers) (w .1))
 
-pub same-self : (f : Fact) → sameFact f f ≡ true
+same-self : (f : Fact) → sameFact f f ≡ true
 same-self f = rw (eq-eqb (f .kind) (f .kind) refl) (same-numbers-self (f .numbers))
+
+pub count-self : (f : Fact) → count f (f ∷ []) ≡ 1
+count-self f = rw (same-self f) (omega arith)
 
 -- ---- sums
 

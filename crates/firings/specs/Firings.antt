@@ -38,7 +38,7 @@ pub record FirstRule (kinds : List Kind) (board : Board) (rules : List Rule) : T
   pub first : FirstFit kinds board (rule .body) (rule .tests) nothingKnown known
 
 -- either no rule fits, and it is quiet; or the first rule that fits is settled
-abbrev Look : List Kind → Board → ℕ → List Rule → Firing → Type 0
+abbrev pub Look : List Kind → Board → ℕ → List Rule → Firing → Type 0
 Look kinds board n rules found =
     (All (NoneFits kinds board) rules × (found ≡ quiet))
     ⊎ ((w : FirstRule kinds board rules) × (found ≡ settle kinds board (n + w .place) (ruleWork kinds board (w .rule) (w .known))))
@@ -46,19 +46,22 @@ Look kinds board n rules found =
 module _ (kinds : List Kind) (board : Board) where
   later : (n : ℕ) (rule : Rule) (rules : List Rule) (found : Firing) → NoneFits kinds board rule → Look kinds board (suc n) rules found → Look kinds board n (rule ∷ rules) found
   later n rule rules found h (inl w) = inl ((h, w .0), w .1)
-  later n rule rules found h (inr w) = inr (record {
-    place = suc (w .0 .place);
-    rule = w .0 .rule;
-    listed = w .0 .listed;
-    noneEarlier = λ j. elim j [
-      zero ↦ λ earlier l e. subst (NoneFits kinds board) (Option·some-injective rule earlier e) h
-    | suc i ↦ λ earlier l e. w .0 .noneEarlier i earlier (omega arith) e
-    ];
-    known = w .0 .known;
-    first = w .0 .first;
-  }, w .1 ∙ ap (λ (m : ℕ). settle kinds board m (ruleWork kinds board (w .0 .rule) (w .0 .known))) (omega arith))
+  later n rule rules found h (inr w) = inr (
+    record {
+      place = suc (w .0 .place);
+      rule = w .0 .rule;
+      listed = w .0 .listed;
+      noneEarlier = λ j. elim j [
+        | zero ↦ λ earlier l e. subst (NoneFits kinds board) (Option·some-injective rule earlier e) h
+        | suc i ↦ λ earlier l e. w .0 .noneEarlier i earlier (omega arith) e
+      ];
+      known = w .0 .known;
+      first = w .0 .first;
+    },
+    w .1 ∙ ap (λ (m : ℕ). settle kinds board m (ruleWork kinds board (w .0 .rule) (w .0 .known))) (omega arith),
+  )
 
-  look : (n : ℕ) (rules : List Rule) → All (GoodRule kinds) rules → Look kinds board n rules (fireFrom kinds board n rules)
+  pub look : (n : ℕ) (rules : List Rule) → All (GoodRule kinds) rules → Look kinds board n rules (fireFrom kinds board n rules)
   unfolding fireFrom
   look n [] good = inl (tt, refl)
   look n (rule ∷ rules) good = go (firstFit kinds board (rule .body) (rule .tests) nothingKnown) refl (look (suc n) rules (good .1))
@@ -66,14 +69,17 @@ module _ (kinds : List Kind) (board : Board) where
       go : (o : Option Known) → firstFit kinds board (rule .body) (rule .tests) nothingKnown ≡ o → Look kinds board (suc n) rules (fireFrom kinds board (suc n) rules)
           → Look kinds board n (rule ∷ rules) (fireRule kinds board n rule o (fireFrom kinds board (suc n) rules))
       go none e w = later n rule rules _ (none-first-exactly-if-none-fits kinds board (rule .body) (rule .tests) nothingKnown (good .0 .group .goodTests) .0 e) w
-      go (some k) e w = inr (record {
-        place = 0;
-        rule = rule;
-        listed = refl;
-        noneEarlier = λ j earlier l. absurd (omega arith);
-        known = k;
-        first = first-fit-is-first kinds board (rule .body) (rule .tests) nothingKnown (good .0 .group .goodTests) e;
-      }, ap (λ (m : ℕ). settle kinds board m (ruleWork kinds board rule k)) (sym (add-zero n)))
+      go (some k) e w = inr (
+        record {
+          place = 0;
+          rule = rule;
+          listed = refl;
+          noneEarlier = λ j earlier l. absurd (omega arith);
+          known = k;
+          first = first-fit-is-first kinds board (rule .body) (rule .tests) nothingKnown (good .0 .group .goodTests) e;
+        },
+        ap (λ (m : ℕ). settle kinds board m (ruleWork kinds board rule k)) (sym (add-zero n)),
+      )
 
 module _ (kinds : List Kind) (board : Board) (n : ℕ) (work : Work) where
   settle-fired : {r : ℕ} {board′ : Board} → settle kinds board n work ≡ fired r board′ → (r ≡ n) × (board′ ≡ boardAfter kinds board work) × (hasRoom board′ ≡ true)
@@ -169,13 +175,19 @@ module _ (book : Book) (good : GoodBook book) (board : Board) where
       let r = all-at (GoodRule (book .kinds)) (book .rules) (w .place) (good .rules) (w .listed) in
       sweeps-done (book .kinds) board (w .known .bindings) (w .rule .body) (w .first .gives .binds) (w .rule .sweeps) (r .sweeps) (bodyWork (w .rule) (w .known))
 
+  -- the first rule that fits makes a step that Meld allows, whether or not the board has room
+  pub meld-by : (w : FirstRule (book .kinds) board (book .rules)) → let work = ruleWork (book .kinds) board (w .rule) (w .known) in MeldStep book board (w .rule) work (boardAfter (book .kinds) board work)
+  meld-by w =
+      let work = ruleWork (book .kinds) board (w .rule) (w .known) in
+      meld-step book board (w .rule) (w .place) work (w .listed)
+      (rule-applied (book .kinds) board (w .rule) (w .first .choice) (w .known) work (w .first .isChoice) (w .first .gives) (swept-by w))
+
   firing-by : {number : ℕ} {board′ : Board} (w : FirstRule (book .kinds) board (book .rules))
       → settle (book .kinds) board (0 + w .place) (ruleWork (book .kinds) board (w .rule) (w .known)) ≡ fired number board′ → FiringIs book board number board′
   firing-by {number} w h =
       let work = ruleWork (book .kinds) board (w .rule) (w .known) in
       let s = settle-fired (book .kinds) board (0 + w .place) work h in
       let p : number ≡ w .place = s .0 ∙ zero-add (w .place) in
-      let swept = swept-by w in
       record {
         rule = w .rule;
         listed = rw p (w .listed);
@@ -183,11 +195,10 @@ module _ (book : Book) (good : GoodBook book) (board : Board) where
         known = w .known;
         first = w .first;
         work = work;
-        swept = swept;
+        swept = swept-by w;
         after = s .1;
         room = s .2;
-        meld = rw (s .1) (meld-step book board (w .rule) (w .place) work (w .listed)
-            (rule-applied (book .kinds) board (w .rule) (w .first .choice) (w .known) work (w .first .isChoice) (w .first .gives) swept));
+        meld = rw (s .1) (meld-by w);
       }
 
   -- "Among possible firings it takes the first rule's first fit in document 01's order", and each firing "is one that Meld 2.0 Semantics allows".

@@ -76,6 +76,11 @@ module _ (kinds : List Kind) (atoms : List Atom) (tests : List Test) (rows : Cho
   pub by-fits : (w : Fits kinds atoms tests rows (known .bindings) (known .gone)) → FitsBy kinds tests atoms rows (known .gone) (w .values)
   by-fits w = fits-split kinds tests (w .values) atoms rows (known .gone) .1 ((w .apart, w .unused), w .equal, w .tested)
 
+  pub fits-by : (values : Values) → Under (known .bindings) values → FitsBy kinds tests atoms rows (known .gone) values → Fits kinds atoms tests rows (known .bindings) (known .gone)
+  fits-by values u h =
+      let w = fits-split kinds tests values atoms rows (known .gone) .0 h in
+      record { ofKind = equal-kinds values atoms rows (w .1); apart = w .0 .0; unused = w .0 .1; values = values; under = u; equal = w .1; tested = w .2 }
+
   module _ (bound : BoundTests (known .bindings) atoms tests) where
     pub fit-gives : {k : Known} → fit kinds atoms tests rows known ≡ some k → FitGives kinds atoms tests rows known k
     fit-gives {k} e =
@@ -84,7 +89,7 @@ module _ (kinds : List Kind) (atoms : List Atom) (tests : List Test) (rows : Cho
         let own = w .1 .exactly values .0 (under-own (k .bindings)) in
         let f = fits-split kinds tests values atoms rows (known .gone) .0 (own .1) in
         record {
-          fits = record { ofKind = equal-kinds values atoms rows (f .1); apart = f .0 .0; unused = f .0 .1; values = values; under = own .0; equal = f .1; tested = f .2 };
+          fits = fits-by values (own .0) (own .1);
           under = own .0;
           equal = f .1;
           tested = f .2;

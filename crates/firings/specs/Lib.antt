@@ -6,3 +6,4 @@ pub mod Sweeping
 pub mod Counting
 pub mod Deriving
 pub mod Firings
+pub mod Allowing
