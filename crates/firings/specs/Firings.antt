@@ -37,6 +37,10 @@ pub record FirstRule (kinds : List Kind) (board : Board) (rules : List Rule) : T
   pub known : Known
   pub first : FirstFit kinds board (rule .body) (rule .tests) nothingKnown known
 
+pub first-rule-fits : (kinds : List Kind) (board : Board) (rules : List Rule) → FirstRule kinds board rules → All (NoneFits kinds board) rules → ⊥
+first-rule-fits kinds board rules w h =
+    all-at (NoneFits kinds board) rules (w .place) h (w .listed) (w .first .choice) (w .first .isChoice) (w .first .gives .fits)
+
 -- either no rule fits, and it is quiet; or the first rule that fits is settled
 abbrev pub Look : List Kind → Board → ℕ → List Rule → Firing → Type 0
 Look kinds board n rules found =
@@ -222,6 +226,5 @@ module _ (book : Book) (good : GoodBook book) (board : Board) where
   quiet-exactly-if-none-fits =
       let l = look (book .kinds) board 0 (book .rules) (good .rules) in (
         (λ h. ⊎-elim (λ w. w .0) (λ w. absurd (settle-not-quiet (book .kinds) board (0 + w .0 .place) _ (sym (w .1) ∙ h))) l),
-        λ h. ⊎-elim (λ w. w .1)
-            (λ w. absurd (all-at (NoneFits (book .kinds) board) (book .rules) (w .0 .place) h (w .0 .listed) (w .0 .first .choice) (w .0 .first .isChoice) (w .0 .first .gives .fits))) l,
+        λ h. ⊎-elim (λ w. w .1) (λ w. absurd (first-rule-fits (book .kinds) board (book .rules) (w .0) h)) l,
       )

@@ -7,3 +7,4 @@ pub mod Counting
 pub mod Deriving
 pub mod Firings
 pub mod Allowing
+pub mod Runs
