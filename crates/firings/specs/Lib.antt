@@ -8,3 +8,4 @@ pub mod Deriving
 pub mod Firings
 pub mod Allowing
 pub mod Runs
+pub mod Keeping
