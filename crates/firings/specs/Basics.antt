@@ -1,10 +1,10 @@
--- Laws of conditions, membership and lists that the other files share; each by induction on the list or by the two cases of a condition.
+-- Laws of conditions, membership and lists that the other files share; each by induction on the list, or by the two cases of a condition.
 use mathlib.Core.Path.{_≡_, refl, sym, ap, subst}
 use mathlib.Core.Logic.{_⊎_, inl, inr}
-use Prim.Native.Nat.{ℕ, suc}
-use mathlib.Core.Bool.{Bool, true, false, not, _&&_, _||_, false≢true, true≢false, or-assoc}
+use Prim.Native.Nat.{ℕ, zero, suc}
+use mathlib.Core.Bool.{Bool, true, false, _&&_, _||_, false≢true, true≢false, or-assoc}
 use mathlib.Core.Option.{some, Option·some-injective, Option·none-ne-some}
-use mathlib.Core.List.{List, [], _∷_, _++_, List·Memᴰ·head, List·Memᴰ·tail, List·Memᴰ·not-nil}
+use mathlib.Core.List.{List, [], _∷_, _++_, List·Memᴰ·head, List·Memᴰ·tail}
 use lib.ListN.{getElem?}
 use lib.Dec.{eqb}
 use borrow.Author.Tests.{eqb-true, eq-eqb}
@@ -14,8 +14,8 @@ use Rattle.meaning.specs.Facts.{Fact}
 -- ---- conditions
 
 pub cases {ℓ} : {X : Type ℓ} (t : Bool) → (t ≡ true → X) → (t ≡ false → X) → X
-cases true yes′ no′ = yes′ refl
-cases false yes′ no′ = no′ refl
+cases true f g = f refl
+cases false f g = g refl
 
 pub both : (x y : Bool) → (x && y) ≡ true → (x ≡ true) × (y ≡ true)
 both true y h = (refl, h)
@@ -29,27 +29,17 @@ pub neither : (x y : Bool) → (x || y) ≡ false → (x ≡ false) × (y ≡ fa
 neither true y h = absurd (true≢false h)
 neither false y h = (refl, h)
 
--- two conditions are equal if each holds where the other does
-pub same-condition : (x y : Bool) → (x ≡ true → y ≡ true) → (y ≡ true → x ≡ true) → x ≡ y
-same-condition true y f g = sym (f refl)
-same-condition false true f g = g refl
-same-condition false false f g = refl
-
 -- ---- membership of numbers
 
 pub in-mem : {n : ℕ} {l : List ℕ} → In n l → mem n l ≡ true
 in-mem {n} (List·Memᴰ·head {x = x} e) = rw (eq-eqb n x e)
 in-mem {n} (List·Memᴰ·tail {x = x} m) = cases (eqb n x) (λ q. rw q) (λ q. rw q (in-mem m))
 
-pub mem-in : (n : ℕ) (l : List ℕ) → mem n l ≡ true → In n l
-mem-in n [] h = absurd (false≢true h)
-mem-in n (x ∷ l) h = cases (eqb n x) (λ q. List·Memᴰ·head (eqb-true n x q)) (λ q. List·Memᴰ·tail (mem-in n l (rw q at h)))
-
 pub mem-append : (n : ℕ) (l m : List ℕ) → mem n (l ++ m) ≡ (mem n l || mem n m)
 mem-append n [] m = refl
 mem-append n (x ∷ l) m = rw (mem-append n l m) (sym (or-assoc (eqb n x) (mem n l) (mem n m)))
 
--- ---- what holds of each element
+-- ---- lists, element by element
 
 module _ {A : Type 0} where
   pub all-map : {P Q : A → Type 0} → ((a : A) → P a → Q a) → (l : List A) → All P l → All Q l
@@ -62,12 +52,12 @@ module _ {A : Type 0} where
 
   pub all-at : (P : A → Type 0) (l : List A) (i : ℕ) {a : A} → All P l → getElem? l i ≡ some a → P a
   all-at P [] i {a} h e = absurd (Option·none-ne-some a e)
-  all-at P (x ∷ l) ℕ.zero {a} h e = subst P (Option·some-injective x a e) (h .0)
+  all-at P (x ∷ l) zero {a} h e = subst P (Option·some-injective x a e) (h .0)
   all-at P (x ∷ l) (suc i) h e = all-at P l i (h .1) e
 
   pub at-in : (l : List A) (i : ℕ) {a : A} → getElem? l i ≡ some a → In a l
   at-in [] i {a} e = absurd (Option·none-ne-some a e)
-  at-in (x ∷ l) ℕ.zero {a} e = List·Memᴰ·head (sym (Option·some-injective x a e))
+  at-in (x ∷ l) zero {a} e = List·Memᴰ·head (sym (Option·some-injective x a e))
   at-in (x ∷ l) (suc i) e = List·Memᴰ·tail (at-in l i e)
 
   pub in-at : {a : A} {l : List A} → In a l → (i : ℕ) × (getElem? l i ≡ some a)

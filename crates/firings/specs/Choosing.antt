@@ -1,12 +1,14 @@
--- `choices` lists exactly the choices of rows, each once, in document 01's order; `firstFit` finds the first that fits. By induction on the atoms, and
--- inside on the rows of one atom.
+-- `choices` lists exactly the choices of rows, each once, in document 01's order, and `firstFit` finds the first that fits. By induction on the atoms,
+-- and inside on the rows of one atom.
 use mathlib.Core.Path.{_≡_, refl, sym, ap, _∙_, subst, subst₂}
-use mathlib.Core.Logic.{_⊎_, inl, inr, _↔_, ⊎-elim}
-use Prim.Native.Nat.{ℕ, zero, suc, _+_, _<_}
+use mathlib.Core.Logic.{inl, inr, _↔_, ⊎-elim}
+use Prim.Native.Nat.{ℕ, zero, suc, _+_}
 use native.Mathlib.Nat.{add-zero, zero-add}
 use native.Mathlib.Omega.{arith}
 use mathlib.Core.Option.{Option, none, some, Option·some-injective, Option·none-ne-some}
-use mathlib.Core.List.{List, [], _∷_, _++_, map, List·Memᴰ·head, List·Memᴰ·tail, List·Memᴰ·not-nil, List·Memᴰ·cases-cons, List·Memᴰ·append-cases, List·Memᴰ·eq-of-singleton, Memᴰ·append-left, Memᴰ·append-right, Memᴰ·map, Memᴰ·of-map, Memᴰ·cast, nil≢cons, cons≢nil, head-eq-of-cons-eq, tail-eq-of-cons-eq}
+use mathlib.Core.List.{List, [], _∷_, _++_, map, nil≢cons, cons≢nil, head-eq-of-cons-eq, tail-eq-of-cons-eq}
+use mathlib.Core.List.{List·Memᴰ·head, List·Memᴰ·tail, List·Memᴰ·not-nil, List·Memᴰ·cases-cons, List·Memᴰ·append-cases, List·Memᴰ·eq-of-singleton}
+use mathlib.Core.List.{Memᴰ·append-left, Memᴰ·append-right, Memᴰ·map, Memᴰ·of-map, Memᴰ·cast}
 use lib.ListN.{getElem?}
 use Rattle.meaning.specs.Basics.{orElse, first, In}
 use Rattle.meaning.specs.Facts.{Kind, Fact, Board, isCard, rowsOf}
@@ -48,7 +50,8 @@ in-spread cs {c = c} (x ∷ rows) m k =
     (λ l. Memᴰ·append-right (map (λ d. x ∷ d) cs) (in-spread cs rows l k)) (List·Memᴰ·cases-cons m)
 
 -- "A choice gives each body atom a row of its class": `choices` lists exactly these.
-pub choices-exactly : (kinds : List Kind) (board : Board) (atoms : List Atom) (c : Choice) → In c (choices kinds board atoms) ↔ IsChoice kinds board atoms c
+pub choices-exactly : (kinds : List Kind) (board : Board) (atoms : List Atom) (c : Choice)
+    → In c (choices kinds board atoms) ↔ IsChoice kinds board atoms c
 unfolding choices
 choices-exactly kinds board [] [] = ((λ m. tt), λ h. List·Memᴰ·head refl)
 choices-exactly kinds board [] (r ∷ c) = ((λ m. absurd (cons≢nil (List·Memᴰ·eq-of-singleton m))), λ h. absurd h)
@@ -72,6 +75,9 @@ before-asymmetric (r ∷ c) (s ∷ d) (inl h) (inl k) = omega arith
 before-asymmetric (r ∷ c) (s ∷ d) (inl h) (inr k) = omega (arith, k .0)
 before-asymmetric (r ∷ c) (s ∷ d) (inr h) (inl k) = omega (arith, h .0)
 before-asymmetric (r ∷ c) (s ∷ d) (inr h) (inr k) = before-asymmetric c d (h .1) (k .1)
+
+before-self : (c : Choice) → Before c c → ⊥
+before-self c h = before-asymmetric c c h h
 
 -- each comes before all that follow
 abbrev pub Ascending : List Choice → Type 0
@@ -97,7 +103,8 @@ unfolding spread numbered
 ascending-spread cs p n [] = tt
 ascending-spread cs p n (f ∷ facts) =
     let r : Row = record { at = n; fact = f } in
-    ascending-append (map (λ c. r ∷ c) cs) (spread (numbered (suc n) facts) cs) (ascending-map r cs p) (ascending-spread cs p (suc n) facts) λ c d m k.
+    let rest = spread (numbered (suc n) facts) cs in
+    ascending-append (map (λ c. r ∷ c) cs) rest (ascending-map r cs p) (ascending-spread cs p (suc n) facts) λ c d m k.
     let v = Memᴰ·of-map (λ e. r ∷ e) cs m in
     let w = spread-from (numbered (suc n) facts) cs k in
     let z = numbered-at (suc n) facts (w .2) in
@@ -107,13 +114,14 @@ ascending-spread cs p n (f ∷ facts) =
 pub choices-ascending : (kinds : List Kind) (board : Board) (atoms : List Atom) → Ascending (choices kinds board atoms)
 unfolding choices
 choices-ascending kinds board [] = ((λ d m. absurd (List·Memᴰ·not-nil m)), tt)
-choices-ascending kinds board (a ∷ atoms) = ascending-spread (choices kinds board atoms) (choices-ascending kinds board atoms) 0 (rowsOf board (isCard kinds (a .kind)))
+choices-ascending kinds board (a ∷ atoms) =
+    ascending-spread (choices kinds board atoms) (choices-ascending kinds board atoms) 0 (rowsOf board (isCard kinds (a .kind)))
 
 ascending-once : (cs : List Choice) → Ascending cs → (i j : ℕ) {c : Choice} → getElem? cs i ≡ some c → getElem? cs j ≡ some c → i ≡ j
 ascending-once [] p i j {c} h k = absurd (Option·none-ne-some c h)
 ascending-once (x ∷ cs) p zero zero h k = refl
-ascending-once (x ∷ cs) p zero (suc j) {c} h k = absurd (let b = p .0 x (Memᴰ·cast (Option·some-injective x c h) (at-in cs j k)) in before-asymmetric x x b b)
-ascending-once (x ∷ cs) p (suc i) zero {c} h k = absurd (let b = p .0 x (Memᴰ·cast (Option·some-injective x c k) (at-in cs i h)) in before-asymmetric x x b b)
+ascending-once (x ∷ cs) p zero (suc j) {c} h k = absurd (before-self x (p .0 x (Memᴰ·cast (Option·some-injective x c h) (at-in cs j k))))
+ascending-once (x ∷ cs) p (suc i) zero {c} h k = absurd (before-self x (p .0 x (Memᴰ·cast (Option·some-injective x c k) (at-in cs i h))))
 ascending-once (x ∷ cs) p (suc i) (suc j) h k = ap suc (ascending-once cs (p .1) i j h k)
 
 -- So each choice stands in one place only.
@@ -129,7 +137,8 @@ module _ {B : Type 0} (f : Choice → Option B) where
   first-none [] = ((λ h c m. absurd (List·Memᴰ·not-nil m)), λ h. refl)
   first-none (d ∷ cs) = go (f d) refl (first-none cs)
     where
-      go : (o : Option B) → f d ≡ o → (first f cs ≡ none) ↔ ((c : Choice) → In c cs → f c ≡ none) → (orElse o (first f cs) ≡ none) ↔ ((c : Choice) → In c (d ∷ cs) → f c ≡ none)
+      go : (o : Option B) → f d ≡ o → (first f cs ≡ none) ↔ ((c : Choice) → In c cs → f c ≡ none)
+          → (orElse o (first f cs) ≡ none) ↔ ((c : Choice) → In c (d ∷ cs) → f c ≡ none)
       go (some x) e w = ((λ h. absurd (Option·none-ne-some x (sym h))), λ h. sym e ∙ h d (List·Memᴰ·head refl))
       go none e w = ((λ h c m. ⊎-elim (λ q. ap f q ∙ e) (w .0 h c) (List·Memᴰ·cases-cons m)), λ h. w .1 (λ c m. h c (List·Memᴰ·tail m)))
 
@@ -147,39 +156,41 @@ module _ {B : Type 0} (f : Choice → Option B) where
         c,
         List·Memᴰ·head refl,
         e ∙ k,
-        λ d m b. absurd (⊎-elim (λ q. let z = subst (λ (s : Choice). Before s c) q b in before-asymmetric c c z z) (λ l. before-asymmetric c d (p .0 d l) b) (List·Memᴰ·cases-cons m)),
+        λ d m b. absurd (⊎-elim (λ q. before-self c (subst (λ (s : Choice). Before s c) q b)) (λ l. before-asymmetric c d (p .0 d l) b) (List·Memᴰ·cases-cons m)),
       )
       go none e k later =
           let w = later k in
           (w .0, List·Memᴰ·tail (w .1), w .2, λ d m b. ⊎-elim (λ q. ap f q ∙ e) (λ l. w .3 d l b) (List·Memᴰ·cases-cons m))
 
-pub record FirstFit (kinds : List Kind) (board : Board) (atoms : List Atom) (tests : List Test) (known k : Known) : Type 0 where
+-- a choice that fits, what `fit` found for it, and none before it fits
+pub record FirstChoice (kinds : List Kind) (board : Board) (atoms : List Atom) (tests : List Test) (known k : Known) : Type 0 where
   pub choice : Choice
   pub isChoice : IsChoice kinds board atoms choice
   pub answer : fit kinds atoms tests choice known ≡ some k
   pub gives : FitGives kinds atoms tests choice known k
   pub noneBefore : (d : Choice) → IsChoice kinds board atoms d → Before d choice → Fits kinds atoms tests d (known .bindings) (known .gone) → ⊥
 
-module _ (kinds : List Kind) (board : Board) (atoms : List Atom) (tests : List Test) (known : Known) (bound : BoundTests (known .bindings) atoms tests) where
-  -- "and its first one": what `firstFit` finds is a choice that fits, and none before it fits.
-  pub first-fit-is-first : {k : Known} → firstFit kinds board atoms tests known ≡ some k → FirstFit kinds board atoms tests known k
-  unfolding firstFit
-  first-fit-is-first {k} h =
-      let w = first-least (λ c. fit kinds atoms tests c known) (choices kinds board atoms) k (choices-ascending kinds board atoms) h in
-      record {
-        choice = w .0;
-        isChoice = choices-exactly kinds board atoms (w .0) .0 (w .1);
-        answer = w .2;
-        gives = fit-gives kinds atoms tests (w .0) known bound (w .2);
-        noneBefore = λ d c b. none-exactly-if-not-fits kinds atoms tests d known bound .0 (w .3 d (choices-exactly kinds board atoms d .1 c) b);
-      }
+module _ (kinds : List Kind) (board : Board) (atoms : List Atom) (tests : List Test) (known : Known) where
+  module _ (bound : BoundTests (known .bindings) atoms tests) where
+    -- "and its first one": what `firstFit` finds is of a choice that fits, and none before it fits.
+    pub first-fit-is-first : {k : Known} → firstFit kinds board atoms tests known ≡ some k → FirstChoice kinds board atoms tests known k
+    unfolding firstFit
+    first-fit-is-first {k} h =
+        let w = first-least (λ c. fit kinds atoms tests c known) (choices kinds board atoms) k (choices-ascending kinds board atoms) h in
+        record {
+          choice = w .0;
+          isChoice = choices-exactly kinds board atoms (w .0) .0 (w .1);
+          answer = w .2;
+          gives = fit-gives kinds atoms tests (w .0) known bound (w .2);
+          noneBefore = λ d c b. none-exactly-if-not-fits kinds atoms tests d known bound .0 (w .3 d (choices-exactly kinds board atoms d .1 c) b);
+        }
 
-  -- `firstFit` finds none exactly if no choice fits.
-  pub none-first-exactly-if-none-fits : (firstFit kinds board atoms tests known ≡ none)
-      ↔ ((c : Choice) → IsChoice kinds board atoms c → Fits kinds atoms tests c (known .bindings) (known .gone) → ⊥)
-  unfolding firstFit
-  none-first-exactly-if-none-fits =
-      let w = first-none (λ c. fit kinds atoms tests c known) (choices kinds board atoms) in (
-        (λ h c i. none-exactly-if-not-fits kinds atoms tests c known bound .0 (w .0 h c (choices-exactly kinds board atoms c .1 i))),
-        λ h. w .1 (λ c m. none-exactly-if-not-fits kinds atoms tests c known bound .1 (h c (choices-exactly kinds board atoms c .0 m))),
-      )
+    -- `firstFit` finds none exactly if no choice fits.
+    pub none-first-exactly-if-none-fits : (firstFit kinds board atoms tests known ≡ none)
+        ↔ ((c : Choice) → IsChoice kinds board atoms c → Fits kinds atoms tests c (known .bindings) (known .gone) → ⊥)
+    unfolding firstFit
+    none-first-exactly-if-none-fits =
+        let w = first-none (λ c. fit kinds atoms tests c known) (choices kinds board atoms) in (
+          (λ h c i. none-exactly-if-not-fits kinds atoms tests c known bound .0 (w .0 h c (choices-exactly kinds board atoms c .1 i))),
+          λ h. w .1 (λ c m. none-exactly-if-not-fits kinds atoms tests c known bound .1 (h c (choices-exactly kinds board atoms c .0 m))),
+        )

@@ -20,7 +20,7 @@ use Rattle.firings.specs.Basics.{cases, neither, at-in}
 use Rattle.firings.specs.Counting.{sum-append, sum-cons, sum-nothing, sum-then, usedRows, unused-and-used, unused-all, mark-takes}
 use Rattle.firings.specs.Answers.{isBound, unbound-zero, under-bound, FitsBy, goneAfter, gone-nil, gone-cons, occurs-cons}
 use Rattle.firings.specs.Fitting.{FitGives, by-fits}
-use Rattle.firings.specs.Sweeping.{Sweeping, over, passes, takes, SweepDone, SweepsDone, none-left-over, one-and-then, Taken}
+use Rattle.firings.specs.Sweeping.{Sweeping, over, passes, takes, SweepDone, SweepsDone, no-sweep, sweep-then, Taken}
 use Rattle.firings.specs.Choosing.{choices-exactly}
 
 -- ---- terms
@@ -203,8 +203,8 @@ module _ (kinds : List Kind) (board : Board) (last : Work) where
     leads-sweep sweep Ω {work} (takes {c = c} {k = k} g l) i d = leads-taken sweep Ω work c k (i c (List·Memᴰ·head refl)) g (leads-sweep sweep Ω l (λ e m. i e (List·Memᴰ·tail m)) d)
 
     leads-sweeps : {sweeps : List Sweep} {work : Work} → SweepsDone kinds board bindings work sweeps last → Leads work (tensor (sweepForm kinds xs (valuesOf bindings)) sweeps 𝟏 ∷ [])
-    leads-sweeps none-left-over = ([], derive-1 derive-end, sum-nothing (unusedRows 0 (last .used) (board .cards)))
-    leads-sweeps (one-and-then {sweep = sweep} done more) =
+    leads-sweeps no-sweep = ([], derive-1 derive-end, sum-nothing (unusedRows 0 (last .used) (board .cards)))
+    leads-sweeps (sweep-then {sweep = sweep} done more) =
         let d = leads-sweep sweep _ (done .each) (λ c. choices-exactly kinds board (sweep .body) c .0) (leads-sweeps more) in
         (d .0, derive-⊗ (d .1), d .2)
 

@@ -17,7 +17,7 @@ use Rattle.meaning.specs.Firing.{Work, ruleWork, bodyWork, unusedRows, ofClass,
 use Rattle.meaning.specs.Meld.{count, Apply, Step, rule-app, ruleForm}
 use Rattle.meaning.specs.WellFormed.{GoodRule, GoodBook}
 use Rattle.firings.specs.Basics.{cases, all-at, at-in}
-use Rattle.firings.specs.Choosing.{FirstFit, first-fit-is-first, none-first-exactly-if-none-fits}
+use Rattle.firings.specs.Choosing.{FirstChoice, first-fit-is-first, none-first-exactly-if-none-fits}
 use Rattle.firings.specs.Sweeping.{SweepsDone, sweeps-done}
 use Rattle.firings.specs.Counting.{count-append, usedRows, unused-and-used}
 use Rattle.firings.specs.Deriving.{rule-applied}
@@ -35,7 +35,7 @@ pub record FirstRule (kinds : List Kind) (board : Board) (rules : List Rule) : T
   pub listed : getElem? rules place ≡ some rule
   pub noneEarlier : (j : ℕ) (earlier : Rule) → j < place → getElem? rules j ≡ some earlier → NoneFits kinds board earlier
   pub known : Known
-  pub first : FirstFit kinds board (rule .body) (rule .tests) nothingKnown known
+  pub first : FirstChoice kinds board (rule .body) (rule .tests) nothingKnown known
 
 pub first-rule-fits : (kinds : List Kind) (board : Board) (rules : List Rule) → FirstRule kinds board rules → All (NoneFits kinds board) rules → ⊥
 first-rule-fits kinds board rules w h =
@@ -156,7 +156,7 @@ pub record FiringIs (book : Book) (board : Board) (number : ℕ) (board′ : Boa
   pub noneEarlier : (j : ℕ) (earlier : Rule) → j < number → getElem? (book .rules) j ≡ some earlier → NoneFits (book .kinds) board earlier
   -- "and its first one": the choice, its values and the card rows that it uses
   pub known : Known
-  pub first : FirstFit (book .kinds) board (rule .body) (rule .tests) nothingKnown known
+  pub first : FirstChoice (book .kinds) board (rule .body) (rule .tests) nothingKnown known
   -- "Its sweeps then run in file order, under the body's values."
   pub work : Work
   pub swept : SweepsDone (book .kinds) board (known .bindings) (bodyWork rule known) (rule .sweeps) work

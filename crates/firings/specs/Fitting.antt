@@ -1,24 +1,25 @@
 -- `fit`, the program, answers exactly where the choice fits in document 01's words (`Fits`), and the values that it finds are the only ones. The words
 -- speak of all rows at once and the program goes atom by atom: `fits-split` says that both mean the same.
-use mathlib.Core.Path.{_≡_, refl, sym, ap, _∙_, subst}
-use mathlib.Core.Logic.{_⊎_, _↔_, ⊎-elim}
+use mathlib.Core.Path.{_≡_, refl, sym, ap, _∙_}
+use mathlib.Core.Logic.{_↔_, ⊎-elim}
 use Prim.Native.Nat.{ℕ}
-use mathlib.Core.Bool.{Bool, true, false, not, _||_, true≢false, or-true}
+use mathlib.Core.Bool.{Bool, true, false, _||_, true≢false, or-true}
 use mathlib.Core.Option.{Option, none, some, Option·none-ne-some}
 use mathlib.Core.List.{List, [], _∷_, List·Memᴰ·head, List·Memᴰ·tail, List·Memᴰ·not-nil, List·Memᴰ·cases-cons, Memᴰ·cast}
 use lib.Dec.{eqb}
 use borrow.Author.Tests.{eq-eqb, ne-eqb, not-true}
-use Rattle.meaning.specs.Basics.{if_then_else_, In}
+use Rattle.meaning.specs.Basics.{if_then_else_}
 use Rattle.meaning.specs.Facts.{Kind, Fact, isCard}
 use Rattle.meaning.specs.Rules.{Atom, Test, Values, occursIn}
-use Rattle.meaning.specs.Fit.{Choice, Marks, mark, Bindings, valuesOf, HasKinds, cardRows, Apart, Unused, AtomsEqual, TestsHold, Under, Fits, Known, free, takeRow, fit}
+use Rattle.meaning.specs.Fit.{Choice, Marks, mark, valuesOf, Known, free, takeRow, fit}
+use Rattle.meaning.specs.Fit.{HasKinds, cardRows, Apart, Unused, AtomsEqual, TestsHold, Under, Fits}
 use Rattle.firings.specs.Basics.{neither}
 use Rattle.firings.specs.Answers.{isBound, under-own, under-bound, answered, answer-is, BoundTests, FitsBy, goneAfter, fit-answers}
 
 -- ---- all at once, and row by row
 
 -- "no two card atoms have one row", and none of the rows is gone
-abbrev Fresh : Marks → List ℕ → Type 0
+abbrev pub Fresh : Marks → List ℕ → Type 0
 Fresh gone rows = Apart rows × Unused gone rows
 
 fresh-cons : (gone : Marks) (n : ℕ) (rows : List ℕ) → ((gone n ≡ false) × Fresh (mark n gone) rows) ↔ Fresh gone (n ∷ rows)
@@ -41,9 +42,8 @@ fresh-row true gone n rows =
     ((λ h. w .0 (not-true (gone n) (h .0), h .1)), λ h. let k = w .1 h in (rw (k .0), k .1))
 fresh-row false gone n rows = ((λ h. h .1), λ h. (refl, h))
 
-pub fits-split : (kinds : List Kind) (tests : List Test) (values : Values) (atoms : List Atom) (rows : Choice) (gone : Marks)
-    → FitsBy kinds tests atoms rows gone values
-    ↔ ((Apart (cardRows kinds atoms rows) × Unused gone (cardRows kinds atoms rows)) × AtomsEqual values atoms rows × TestsHold values tests)
+fits-split : (kinds : List Kind) (tests : List Test) (values : Values) (atoms : List Atom) (rows : Choice) (gone : Marks)
+    → FitsBy kinds tests atoms rows gone values ↔ (Fresh gone (cardRows kinds atoms rows) × AtomsEqual values atoms rows × TestsHold values tests)
 fits-split kinds tests values [] [] gone = ((λ h. ((tt, λ n m. absurd (List·Memᴰ·not-nil m)), tt, h)), λ h. h .2)
 fits-split kinds tests values [] (r ∷ rows) gone = ((λ h. absurd h), λ h. h .1)
 fits-split kinds tests values (a ∷ atoms) [] gone = ((λ h. absurd h), λ h. h .1)
@@ -56,10 +56,11 @@ fits-split kinds tests values (a ∷ atoms) (r ∷ rows) gone =
 
 -- an atom that equals its row has its kind
 equal-kinds : (values : Values) (atoms : List Atom) (rows : Choice) → AtomsEqual values atoms rows → HasKinds atoms rows
-equal-kinds values [] [] h = tt
-equal-kinds values [] (r ∷ rows) h = tt
+equal-kinds values [] rows h = tt
 equal-kinds values (a ∷ atoms) [] h = h
 equal-kinds values (a ∷ atoms) (r ∷ rows) h = (sym (ap (λ (f : Fact). f .kind) (h .0)), equal-kinds values atoms rows (h .1))
+
+-- ---- the program and the words
 
 -- What an answer of `fit` gives: the choice fits, and the values found are such values; bound is what was bound or occurs in the atoms; gone is what
 -- was gone or is a row of a card atom; and whatever values make the choice fit, they are those found.
@@ -76,7 +77,8 @@ module _ (kinds : List Kind) (atoms : List Atom) (tests : List Test) (rows : Cho
   pub by-fits : (w : Fits kinds atoms tests rows (known .bindings) (known .gone)) → FitsBy kinds tests atoms rows (known .gone) (w .values)
   by-fits w = fits-split kinds tests (w .values) atoms rows (known .gone) .1 ((w .apart, w .unused), w .equal, w .tested)
 
-  pub fits-by : (values : Values) → Under (known .bindings) values → FitsBy kinds tests atoms rows (known .gone) values → Fits kinds atoms tests rows (known .bindings) (known .gone)
+  pub fits-by : (values : Values) → Under (known .bindings) values → FitsBy kinds tests atoms rows (known .gone) values
+      → Fits kinds atoms tests rows (known .bindings) (known .gone)
   fits-by values u h =
       let w = fits-split kinds tests values atoms rows (known .gone) .0 h in
       record { ofKind = equal-kinds values atoms rows (w .1); apart = w .0 .0; unused = w .0 .1; values = values; under = u; equal = w .1; tested = w .2 }
@@ -108,13 +110,16 @@ module _ (kinds : List Kind) (atoms : List Atom) (tests : List Test) (rows : Cho
 
     -- `fit` answers none exactly if the choice does not fit.
     pub none-exactly-if-not-fits : (fit kinds atoms tests rows known ≡ none) ↔ (Fits kinds atoms tests rows (known .bindings) (known .gone) → ⊥)
-    none-exactly-if-not-fits = ((λ e w. let k = fit-exactly-if-fits .1 w in Option·none-ne-some (k .0) (sym e ∙ k .1)), λ h. go (fit kinds atoms tests rows known) refl h)
+    none-exactly-if-not-fits = (
+      (λ e w. let k = fit-exactly-if-fits .1 w in Option·none-ne-some (k .0) (sym e ∙ k .1)),
+      λ h. go h (fit kinds atoms tests rows known) refl,
+    )
       where
-        go : (o : Option Known) → fit kinds atoms tests rows known ≡ o → (Fits kinds atoms tests rows (known .bindings) (known .gone) → ⊥) → o ≡ none
-        go none e h = refl
-        go (some k) e h = absurd (h (fit-exactly-if-fits .0 (k, e)))
+        go : (Fits kinds atoms tests rows (known .bindings) (known .gone) → ⊥) → (o : Option Known) → fit kinds atoms tests rows known ≡ o → o ≡ none
+        go h none e = refl
+        go h (some k) e = absurd (h (fit-exactly-if-fits .0 (k, e)))
 
-    -- "some values of the variables": the values found are the only ones; any that make the choice fit agree with them on each variable of the body.
+    -- "some values of the variables": those found are the only ones, for each variable of the atoms.
     pub found-values-only : {k : Known} → fit kinds atoms tests rows known ≡ some k → (w : Fits kinds atoms tests rows (known .bindings) (known .gone))
         → (x : ℕ) → occursIn x atoms ≡ true → w .values x ≡ valuesOf (k .bindings) x
     found-values-only {k} e w x o =

@@ -20,7 +20,7 @@ use Rattle.firings.specs.Basics.{cases, both, either, all-map, all-appen
 use Rattle.firings.specs.Answers.{isBound, unbound-zero, under-bound}
 use Rattle.firings.specs.Fitting.{FitGives}
 use Rattle.firings.specs.Choosing.{choices-exactly}
-use Rattle.firings.specs.Sweeping.{Taken, Sweeping, over, passes, takes, SweepDone, SweepsDone, none-left-over, one-and-then}
+use Rattle.firings.specs.Sweeping.{Taken, Sweeping, over, passes, takes, SweepDone, SweepsDone, no-sweep, sweep-then}
 use Rattle.firings.specs.Firings.{FiringIs, firing-is}
 use Rattle.firings.specs.Runs.{Fires, no-more, fires-then, run-is}
 
@@ -95,8 +95,8 @@ module _ (kinds : List Kind) (board : Board) (good : GoodBoard kinds board) (bod
 
   sweeps-made : {sweeps : List Sweep} {work work′ : Work} → SweepsDone kinds board bindings work sweeps work′ → All (GoodSweep kinds body) sweeps
       → All (GoodMade kinds) (work .made) → All (GoodMade kinds) (work′ .made)
-  sweeps-made none-left-over s h = h
-  sweeps-made (one-and-then {sweep = sweep} done more) s h =
+  sweeps-made no-sweep s h = h
+  sweeps-made (sweep-then {sweep = sweep} done more) s h =
       sweeps-made more (s .1) (sweep-made sweep (s .0) (done .each) (λ c. choices-exactly kinds board (sweep .body) c .0) h)
 
 -- ---- the board after

@@ -1,20 +1,21 @@
--- A sweep goes once through all its choices, in order: `Sweeping` says so in document 01's words, and `SweepDone` gathers what follows. Each law is an
--- induction on `Sweeping`, choice by choice.
+-- A sweep goes once through all its choices, in order: `Sweeping` says so in document 01's words, and `SweepDone` gathers what follows from it. Each law
+-- is an induction on `Sweeping`, choice by choice.
 use mathlib.Core.Path.{_≡_, refl, sym, ap, _∙_, subst}
-use mathlib.Core.Logic.{_⊎_, inl, inr, _↔_, ⊎-elim}
+use mathlib.Core.Logic.{inl, inr, _↔_, ⊎-elim}
 use Prim.Native.Nat.{ℕ}
-use mathlib.Core.Bool.{Bool, true, false, _||_, true≢false, or-assoc, or-false, or-true}
+use mathlib.Core.Bool.{Bool, false, _||_, true≢false, or-assoc, or-false}
 use mathlib.Core.Option.{Option, none, some}
-use mathlib.Core.List.{List, [], _∷_, _++_, map, append-assoc, append-nil, List·Memᴰ·head, List·Memᴰ·tail, List·Memᴰ·not-nil, List·Memᴰ·cases-cons, List·Memᴰ·append-cases}
+use mathlib.Core.List.{List, [], _∷_, _++_, map, append-assoc, append-nil}
+use mathlib.Core.List.{List·Memᴰ·head, List·Memᴰ·tail, List·Memᴰ·not-nil, List·Memᴰ·cases-cons, List·Memᴰ·append-cases}
 use Rattle.meaning.specs.Basics.{fold, mem, In, All}
 use Rattle.meaning.specs.Facts.{Kind, Fact, Board, isCard}
 use Rattle.meaning.specs.Rules.{Atom, Sweep, Values, occursIn}
-use Rattle.meaning.specs.Fit.{Choice, Marks, Bindings, IsChoice, cardRows, Apart, Unused, AtomsEqual, Fits, Known, fit, choices}
+use Rattle.meaning.specs.Fit.{Choice, Marks, Bindings, Known, IsChoice, cardRows, Apart, Unused, AtomsEqual, Fits, fit, choices}
 use Rattle.meaning.specs.Firing.{Work, headFacts, taken, takeIfFits, runSweep, runSweeps}
 use Rattle.meaning.specs.WellFormed.{HasCard, GoodSweep}
 use Rattle.firings.specs.Basics.{cases, neither, in-mem, mem-append}
 use Rattle.firings.specs.Answers.{isBound, BoundTests, good-tests}
-use Rattle.firings.specs.Fitting.{FitGives, fit-gives, none-exactly-if-not-fits}
+use Rattle.firings.specs.Fitting.{Fresh, FitGives, fit-gives, none-exactly-if-not-fits}
 use Rattle.firings.specs.Choosing.{Ascending, choices-exactly, choices-ascending}
 
 -- ---- what a sweep takes
@@ -47,7 +48,9 @@ apart-append (x ∷ l) m p q h = (
   apart-append l m (p .1) q (λ n i. h n (List·Memᴰ·tail i)),
 )
 
-card-row : (kinds : List Kind) (values : Values) (atoms : List Atom) (rows : Choice) → HasCard kinds atoms → AtomsEqual values atoms rows → (n : ℕ) × In n (cardRows kinds atoms rows)
+-- a body with a card atom has a card row, and one without has none
+card-row : (kinds : List Kind) (values : Values) (atoms : List Atom) (rows : Choice) → HasCard kinds atoms → AtomsEqual values atoms rows
+    → (n : ℕ) × In n (cardRows kinds atoms rows)
 card-row kinds values [] rows h q = absurd h
 card-row kinds values (a ∷ atoms) [] h q = absurd q
 card-row kinds values (a ∷ atoms) (r ∷ rows) (inl h) q = (r .at, rw h (List·Memᴰ·head refl))
@@ -63,6 +66,9 @@ no-card-row kinds (a ∷ atoms) (r ∷ rows) h = rw (h .0) (no-card-row kinds at
 -- ---- choice by choice
 
 module _ (kinds : List Kind) (sweep : Sweep) (bindings : Bindings) where
+  abbrev now : Work → Known
+  now work = record { bindings = bindings; gone = work .used }
+
   -- the choice fits "under the body's values", "with card rows unused so far"
   abbrev pub FitsNow : Marks → Choice → Type 0
   FitsNow used c = Fits kinds (sweep .body) (sweep .tests) c bindings used
@@ -71,80 +77,95 @@ module _ (kinds : List Kind) (sweep : Sweep) (bindings : Bindings) where
   -- is taken, with the values that make it fit.
   pub data Sweeping : Work → List Choice → List Taken → Work → Type 0 where
     over : {work : Work} → Sweeping work [] [] work
-    passes : {work work′ : Work} {c : Choice} {cs : List Choice} {ts : List Taken}
-        → (FitsNow (work .used) c → ⊥) → Sweeping work cs ts work′ → Sweeping work (c ∷ cs) ts work′
-    takes : {work work′ : Work} {c : Choice} {k : Known} {cs : List Choice} {ts : List Taken}
-        → FitGives kinds (sweep .body) (sweep .tests) c (record { bindings = bindings; gone = work .used }) k → Sweeping (taken (sweep .heads) work (some k)) cs ts work′
-        → Sweeping work (c ∷ cs) (record { choice = c; bindings = k .bindings } ∷ ts) work′
+    passes : {work last : Work} {c : Choice} {cs : List Choice} {ts : List Taken}
+        → (FitsNow (work .used) c → ⊥) → Sweeping work cs ts last
+        → Sweeping work (c ∷ cs) ts last
+    takes : {work last : Work} {c : Choice} {k : Known} {cs : List Choice} {ts : List Taken}
+        → FitGives kinds (sweep .body) (sweep .tests) c (now work) k → Sweeping (taken (sweep .heads) work (some k)) cs ts last
+        → Sweeping work (c ∷ cs) (record { choice = c; bindings = k .bindings } ∷ ts) last
+
+  abbrev rows : Choice → List ℕ
+  rows c = cardRows kinds (sweep .body) c
+
+  abbrev allRows : List Taken → List ℕ
+  allRows ts = rowsUsed kinds (sweep .body) ts
 
   -- used afterwards: what was used before, and the rows of the taken choices
-  used-after : {work work′ : Work} {cs : List Choice} {ts : List Taken} → Sweeping work cs ts work′ → (n : ℕ) → work′ .used n ≡ (work .used n || mem n (rowsUsed kinds (sweep .body) ts))
+  used-after : {work last : Work} {cs : List Choice} {ts : List Taken} → Sweeping work cs ts last
+      → (n : ℕ) → last .used n ≡ (work .used n || mem n (allRows ts))
   used-after {work} over n = sym (or-false (work .used n))
   used-after (passes x l) n = used-after l n
   used-after {work} (takes {c = c} {ts = ts} g l) n =
-      rw (used-after l n, g .gone, mem-append n (cardRows kinds (sweep .body) c)) (or-assoc (work .used n) (mem n (cardRows kinds (sweep .body) c)) (mem n (rowsUsed kinds (sweep .body) ts)))
+      rw (used-after l n, g .gone, mem-append n (rows c)) (or-assoc (work .used n) (mem n (rows c)) (mem n (allRows ts)))
 
   -- no card row is used twice, nor one that was used before
-  rows-fresh : {work work′ : Work} {cs : List Choice} {ts : List Taken} → Sweeping work cs ts work′ → Apart (rowsUsed kinds (sweep .body) ts) × Unused (work .used) (rowsUsed kinds (sweep .body) ts)
+  rows-fresh : {work last : Work} {cs : List Choice} {ts : List Taken} → Sweeping work cs ts last → Fresh (work .used) (allRows ts)
   rows-fresh over = (tt, λ n m. absurd (List·Memᴰ·not-nil m))
   rows-fresh (passes x l) = rows-fresh l
   rows-fresh {work} (takes {c = c} {ts = ts} g l) =
-      let k = rows-fresh l in
-      let rows = cardRows kinds (sweep .body) c in
-      let z : (n : ℕ) → In n (rowsUsed kinds (sweep .body) ts) → (work .used n ≡ false) × (mem n rows ≡ false) = λ n m. neither (work .used n) (mem n rows) (rw (g .gone) at (k .1 n m)) in (
-        apart-append rows (rowsUsed kinds (sweep .body) ts) (g .fits .apart) (k .0) (λ n i m. true≢false (sym (in-mem i) ∙ z n m .1)),
-        λ n m. ⊎-elim (g .fits .unused n) (λ i. z n i .0) (List·Memᴰ·append-cases rows m),
+      let w = rows-fresh l in
+      let z : (n : ℕ) → In n (allRows ts) → (work .used n ≡ false) × (mem n (rows c) ≡ false) =
+      λ n m. neither (work .used n) (mem n (rows c)) (rw (g .gone) at (w .1 n m)) in (
+        apart-append (rows c) (allRows ts) (g .fits .apart) (w .0) (λ n i m. true≢false (sym (in-mem i) ∙ z n m .1)),
+        λ n m. ⊎-elim (g .fits .unused n) (λ i. z n i .0) (List·Memᴰ·append-cases (rows c) m),
       )
 
   -- the made facts: each taken choice's head atoms, in order
-  made-in-order : {work work′ : Work} {cs : List Choice} {ts : List Taken} → Sweeping work cs ts work′ → work′ .made ≡ work .made ++ factsMade (sweep .heads) ts
+  made-in-order : {work last : Work} {cs : List Choice} {ts : List Taken} → Sweeping work cs ts last
+      → last .made ≡ work .made ++ factsMade (sweep .heads) ts
   made-in-order {work} over = sym (append-nil (work .made))
   made-in-order (passes x l) = made-in-order l
-  made-in-order {work} (takes {k = k} {ts = ts} g l) = made-in-order l ∙ append-assoc (work .made) (headFacts (k .bindings) (sweep .heads)) (factsMade (sweep .heads) ts)
+  made-in-order {work} (takes {k = k} {ts = ts} g l) =
+      made-in-order l ∙ append-assoc (work .made) (headFacts (k .bindings) (sweep .heads)) (factsMade (sweep .heads) ts)
 
-  -- the taken ones are among the choices, in their order, each once
-  taken-listed : {work work′ : Work} {cs : List Choice} {ts : List Taken} → Sweeping work cs ts work′ → {c : Choice} → In c (choicesOf ts) → In c cs
+  -- the taken ones are among the choices, in their order
+  taken-listed : {work last : Work} {cs : List Choice} {ts : List Taken} → Sweeping work cs ts last → {c : Choice} → In c (choicesOf ts) → In c cs
   taken-listed over m = m
   taken-listed (passes x l) m = List·Memᴰ·tail (taken-listed l m)
-  taken-listed (takes g l) m = ⊎-elim (λ q. List·Memᴰ·head q) (λ k. List·Memᴰ·tail (taken-listed l k)) (List·Memᴰ·cases-cons m)
+  taken-listed (takes g l) m = ⊎-elim (λ q. List·Memᴰ·head q) (λ i. List·Memᴰ·tail (taken-listed l i)) (List·Memᴰ·cases-cons m)
 
-  taken-ascending : {work work′ : Work} {cs : List Choice} {ts : List Taken} → Sweeping work cs ts work′ → Ascending cs → Ascending (choicesOf ts)
+  taken-ascending : {work last : Work} {cs : List Choice} {ts : List Taken} → Sweeping work cs ts last → Ascending cs → Ascending (choicesOf ts)
   taken-ascending over p = tt
   taken-ascending (passes x l) p = taken-ascending l (p .1)
   taken-ascending (takes g l) p = ((λ d m. p .0 d (taken-listed l m)), taken-ascending l (p .1))
 
-  fits-if-unused : {used used′ : Marks} {c : Choice} → Unused used (cardRows kinds (sweep .body) c) → FitsNow used′ c → FitsNow used c
-  fits-if-unused u f = record { ofKind = f .ofKind; apart = f .apart; unused = u; values = f .values; under = f .under; equal = f .equal; tested = f .tested }
+  fits-if-unused : {used used′ : Marks} {c : Choice} → Unused used (rows c) → FitsNow used′ c → FitsNow used c
+  fits-if-unused u f =
+      record { ofKind = f .ofKind; apart = f .apart; unused = u; values = f .values; under = f .under; equal = f .equal; tested = f .tested }
 
-  -- with a card atom in the body, none with rows unused at last still fits
-  none-left : HasCard kinds (sweep .body) → {work work′ : Work} {cs : List Choice} {ts : List Taken} → Sweeping work cs ts work′ → {c : Choice} → In c cs → FitsNow (work′ .used) c → ⊥
-  none-left card over m h = List·Memᴰ·not-nil m
-  none-left card {work} (passes {ts = ts} x l) {c} m h = ⊎-elim (λ q. x (subst (FitsNow (work .used)) q early)) (λ i. none-left card l i h) (List·Memᴰ·cases-cons m)
+  -- with a card atom in the body, none still fits at last: one passed over did not fit even earlier, and of one taken a card row is used
+  none-left : HasCard kinds (sweep .body) → {work last : Work} {cs : List Choice} {ts : List Taken} → Sweeping work cs ts last
+      → {c : Choice} → In c cs → FitsNow (last .used) c → ⊥
+  none-left card over m f = List·Memᴰ·not-nil m
+  none-left card {work} (passes {ts = ts} x l) {c} m f =
+      ⊎-elim (λ q. x (subst (FitsNow (work .used)) q early)) (λ i. none-left card l i f) (List·Memᴰ·cases-cons m)
     where
       early : FitsNow (work .used) c
-      early = fits-if-unused (λ n i. neither (work .used n) (mem n (rowsUsed kinds (sweep .body) ts)) (sym (used-after l n) ∙ h .unused n i) .0) h
-  none-left card {work} {work′} (takes {c = d} {k = k} g l) {c} m h = ⊎-elim (λ q. taken-once (subst (FitsNow (work′ .used)) q h)) (λ i. none-left card l i h) (List·Memᴰ·cases-cons m)
+      early = fits-if-unused (λ n i. neither (work .used n) (mem n (allRows ts)) (sym (used-after l n) ∙ f .unused n i) .0) f
+  none-left card {work} {last} (takes {c = d} {k = k} g l) {c} m f =
+      ⊎-elim (λ q. again (subst (FitsNow (last .used)) q f)) (λ i. none-left card l i f) (List·Memᴰ·cases-cons m)
     where
-      taken-once : FitsNow (work′ .used) d → ⊥
-      taken-once f =
-          let r = card-row kinds (f .values) (sweep .body) d card (f .equal) in
-          let z : k .gone (r .0) ≡ false = neither _ _ (sym (used-after l (r .0)) ∙ f .unused (r .0) (r .1)) .0 in
+      again : FitsNow (last .used) d → ⊥
+      again h =
+          let r = card-row kinds (h .values) (sweep .body) d card (h .equal) in
+          let z : k .gone (r .0) ≡ false = neither _ _ (sym (used-after l (r .0)) ∙ h .unused (r .0) (r .1)) .0 in
           true≢false (sym (in-mem (r .1)) ∙ neither (work .used (r .0)) _ (rw (g .gone) at z) .1)
 
   -- without one, exactly those that fit are taken
-  notices-taken : AllNotices kinds (sweep .body) → {work work′ : Work} {cs : List Choice} {ts : List Taken} → Sweeping work cs ts work′ → (c : Choice)
-      → (In c cs × FitsNow (work .used) c) ↔ In c (choicesOf ts)
+  notices-taken : AllNotices kinds (sweep .body) → {work last : Work} {cs : List Choice} {ts : List Taken} → Sweeping work cs ts last
+      → (c : Choice) → (In c cs × FitsNow (work .used) c) ↔ In c (choicesOf ts)
   notices-taken all over c = ((λ h. h .0), λ m. absurd (List·Memᴰ·not-nil m))
   notices-taken all {work} (passes x l) c =
-      let k = notices-taken all l c in (
-        (λ h. ⊎-elim (λ q. absurd (x (subst (FitsNow (work .used)) q (h .1)))) (λ m. k .0 (m, h .1)) (List·Memᴰ·cases-cons (h .0))),
-        λ m. let z = k .1 m in (List·Memᴰ·tail (z .0), z .1),
+      let w = notices-taken all l c in (
+        (λ h. ⊎-elim (λ q. absurd (x (subst (FitsNow (work .used)) q (h .1)))) (λ m. w .0 (m, h .1)) (List·Memᴰ·cases-cons (h .0))),
+        λ m. let z = w .1 m in (List·Memᴰ·tail (z .0), z .1),
       )
   notices-taken all {work} (takes g l) c =
-      let k = notices-taken all l c in
-      let any : (used : Marks) → Unused used (cardRows kinds (sweep .body) c) = λ used. rw (no-card-row kinds (sweep .body) c all) (λ n m. absurd (List·Memᴰ·not-nil m)) in (
-        (λ h. ⊎-elim (λ q. List·Memᴰ·head q) (λ m. List·Memᴰ·tail (k .0 (m, fits-if-unused (any _) (h .1)))) (List·Memᴰ·cases-cons (h .0))),
-        λ m. ⊎-elim (λ q. (List·Memᴰ·head q, subst (FitsNow (work .used)) (sym q) (g .fits))) (λ i. let z = k .1 i in (List·Memᴰ·tail (z .0), fits-if-unused (any _) (z .1))) (List·Memᴰ·cases-cons m),
+      let w = notices-taken all l c in
+      let any : (used : Marks) → Unused used (rows c) = rw (no-card-row kinds (sweep .body) c all) (λ used n m. absurd (List·Memᴰ·not-nil m)) in (
+        (λ h. ⊎-elim (λ q. List·Memᴰ·head q) (λ m. List·Memᴰ·tail (w .0 (m, fits-if-unused (any _) (h .1)))) (List·Memᴰ·cases-cons (h .0))),
+        λ m. ⊎-elim (λ q. (List·Memᴰ·head q, subst (FitsNow (work .used)) (sym q) (g .fits)))
+            (λ i. let z = w .1 i in (List·Memᴰ·tail (z .0), fits-if-unused (any _) (z .1))) (List·Memᴰ·cases-cons m),
       )
 
   module _ (bound : BoundTests bindings (sweep .body) (sweep .tests)) where
@@ -152,67 +173,72 @@ module _ (kinds : List Kind) (sweep : Sweep) (bindings : Bindings) where
     sweeping : (cs : List Choice) (work : Work) → (ts : List Taken) × Sweeping work cs ts (fold (takeIfFits kinds sweep bindings) work cs)
     unfolding fold
     sweeping [] work = ([], over)
-    sweeping (c ∷ cs) work = go _ (fit kinds (sweep .body) (sweep .tests) c now) refl (sweeping cs (takeIfFits kinds sweep bindings work c))
+    sweeping (c ∷ cs) work = go _ (fit kinds (sweep .body) (sweep .tests) c (now work)) refl (sweeping cs (takeIfFits kinds sweep bindings work c))
       where
-        now : Known
-        now = record { bindings = bindings; gone = work .used }
-
-        go : (last : Work) (o : Option Known) → fit kinds (sweep .body) (sweep .tests) c now ≡ o → (ts : List Taken) × Sweeping (taken (sweep .heads) work o) cs ts last
-            → (ts : List Taken) × Sweeping work (c ∷ cs) ts last
-        go last none e w = (w .0, passes (none-exactly-if-not-fits kinds (sweep .body) (sweep .tests) c now bound .0 e) (w .1))
-        go last (some k) e w = (record { choice = c; bindings = k .bindings } ∷ w .0, takes (fit-gives kinds (sweep .body) (sweep .tests) c now bound e) (w .1))
+        go : (last : Work) (o : Option Known) → fit kinds (sweep .body) (sweep .tests) c (now work) ≡ o
+            → (ts : List Taken) × Sweeping (taken (sweep .heads) work o) cs ts last → (ts : List Taken) × Sweeping work (c ∷ cs) ts last
+        go last none e w = (w .0, passes (none-exactly-if-not-fits kinds (sweep .body) (sweep .tests) c (now work) bound .0 e) (w .1))
+        go last (some k) e w =
+            (record { choice = c; bindings = k .bindings } ∷ w .0, takes (fit-gives kinds (sweep .body) (sweep .tests) c (now work) bound e) (w .1))
 
 -- ---- a whole sweep
 
-pub record SweepDone (kinds : List Kind) (board : Board) (sweep : Sweep) (bindings : Bindings) (work work′ : Work) : Type 0 where
+pub record SweepDone (kinds : List Kind) (board : Board) (sweep : Sweep) (bindings : Bindings) (work last : Work) : Type 0 where
   -- "A sweep goes through all choices of its own body in order and takes each that fits with card rows unused so far"
   pub takenOnes : List Taken
-  pub each : Sweeping kinds sweep bindings work (choices kinds board (sweep .body)) takenOnes work′
+  pub each : Sweeping kinds sweep bindings work (choices kinds board (sweep .body)) takenOnes last
   -- those taken, in order, each once
   pub inOrder : Ascending (choicesOf takenOnes)
   -- no card row twice, nor one used before; used afterwards are exactly these
   pub apart : Apart (rowsUsed kinds (sweep .body) takenOnes)
   pub unusedBefore : Unused (work .used) (rowsUsed kinds (sweep .body) takenOnes)
-  pub usedAfter : (n : ℕ) → work′ .used n ≡ (work .used n || mem n (rowsUsed kinds (sweep .body) takenOnes))
+  pub usedAfter : (n : ℕ) → last .used n ≡ (work .used n || mem n (rowsUsed kinds (sweep .body) takenOnes))
   -- "then each taken choice's head atoms"
-  pub made : work′ .made ≡ work .made ++ factsMade (sweep .heads) takenOnes
-  -- works "once through all its choices": none with unused card rows still fits
-  pub noneLeft : HasCard kinds (sweep .body) → (c : Choice) → IsChoice kinds board (sweep .body) c → Fits kinds (sweep .body) (sweep .tests) c bindings (work′ .used) → ⊥
-  -- of an all-notice body exactly the fitting choices are taken
+  pub made : last .made ≡ work .made ++ factsMade (sweep .heads) takenOnes
+  -- "works every sweep once through all its choices": with a card atom in its body, none with unused rows still fits
+  pub noneLeft : HasCard kinds (sweep .body)
+      → (c : Choice) → IsChoice kinds board (sweep .body) c → Fits kinds (sweep .body) (sweep .tests) c bindings (last .used) → ⊥
+  -- and of an all-notice body exactly the fitting choices are taken
   pub allTaken : AllNotices kinds (sweep .body) → (c : Choice)
       → (IsChoice kinds board (sweep .body) c × Fits kinds (sweep .body) (sweep .tests) c bindings (work .used)) ↔ In c (choicesOf takenOnes)
 
--- the sweeps "in file order, under the body's values"
+-- the sweeps one after another
 pub data SweepsDone (kinds : List Kind) (board : Board) (bindings : Bindings) : Work → List Sweep → Work → Type 0 where
-  none-left-over : {work : Work} → SweepsDone kinds board bindings work [] work
-  one-and-then : {work work′ work″ : Work} {sweep : Sweep} {sweeps : List Sweep}
-      → SweepDone kinds board sweep bindings work work′ → SweepsDone kinds board bindings work′ sweeps work″ → SweepsDone kinds board bindings work (sweep ∷ sweeps) work″
+  no-sweep : {work : Work} → SweepsDone kinds board bindings work [] work
+  sweep-then : {work next last : Work} {sweep : Sweep} {sweeps : List Sweep}
+      → SweepDone kinds board sweep bindings work next → SweepsDone kinds board bindings next sweeps last
+      → SweepsDone kinds board bindings work (sweep ∷ sweeps) last
 
+-- under values for the variables of the rule's body
 module _ (kinds : List Kind) (board : Board) (bindings : Bindings) (body : List Atom) (binds : (x : ℕ) → isBound bindings x ≡ occursIn x body) where
-  -- A sweep of a rule, run under values for the variables of the rule's body, works once through all its choices.
-  pub sweep-done : (sweep : Sweep) → GoodSweep kinds body sweep → (work : Work) → SweepDone kinds board sweep bindings work (runSweep kinds board bindings work sweep)
+  -- "A sweep goes through all choices of its own body in order and takes each that fits with card rows unused so far by the body, by earlier sweeps or
+  -- by this one."
+  pub sweep-done : (sweep : Sweep) → GoodSweep kinds body sweep
+      → (work : Work) → SweepDone kinds board sweep bindings work (runSweep kinds board bindings work sweep)
   unfolding runSweep
   sweep-done sweep good work =
       let bound : BoundTests bindings (sweep .body) (sweep .tests) =
       good-tests _ _ (λ x h. ap (λ (t : Bool). t || occursIn x (sweep .body)) (binds x) ∙ h) (sweep .tests) (good .group .goodTests) in
       let s = sweeping kinds sweep bindings bound (choices kinds board (sweep .body)) work in
-      let r = rows-fresh kinds sweep bindings (s .1) in
-      let listed : (c : Choice) → In c (choices kinds board (sweep .body)) ↔ IsChoice kinds board (sweep .body) c = choices-exactly kinds board (sweep .body) in
+      let fresh = rows-fresh kinds sweep bindings (s .1) in
+      let listed = choices-exactly kinds board (sweep .body) in
       record {
         takenOnes = s .0;
         each = s .1;
         inOrder = taken-ascending kinds sweep bindings (s .1) (choices-ascending kinds board (sweep .body));
-        apart = r .0;
-        unusedBefore = r .1;
+        apart = fresh .0;
+        unusedBefore = fresh .1;
         usedAfter = used-after kinds sweep bindings (s .1);
         made = made-in-order kinds sweep bindings (s .1);
         noneLeft = λ card c i. none-left kinds sweep bindings card (s .1) (listed c .1 i);
-        allTaken = λ all c. let k = notices-taken kinds sweep bindings all (s .1) c in
-            ((λ h. k .0 (listed c .1 (h .0), h .1)), λ m. let z = k .1 m in (listed c .0 (z .0), z .1));
+        allTaken = λ all c. let w = notices-taken kinds sweep bindings all (s .1) c in
+            ((λ h. w .0 (listed c .1 (h .0), h .1)), λ m. let z = w .1 m in (listed c .0 (z .0), z .1));
       }
 
-  -- "Its sweeps then run in file order"
-  pub sweeps-done : (sweeps : List Sweep) → All (GoodSweep kinds body) sweeps → (work : Work) → SweepsDone kinds board bindings work sweeps (runSweeps kinds board bindings work sweeps)
+  -- "Its sweeps then run in file order, under the body's values."
+  pub sweeps-done : (sweeps : List Sweep) → All (GoodSweep kinds body) sweeps
+      → (work : Work) → SweepsDone kinds board bindings work sweeps (runSweeps kinds board bindings work sweeps)
   unfolding runSweeps fold
-  sweeps-done [] good work = none-left-over
-  sweeps-done (sweep ∷ sweeps) good work = one-and-then (sweep-done sweep (good .0) work) (sweeps-done sweeps (good .1) (runSweep kinds board bindings work sweep))
+  sweeps-done [] good work = no-sweep
+  sweeps-done (sweep ∷ sweeps) good work =
+      sweep-then (sweep-done sweep (good .0) work) (sweeps-done sweeps (good .1) (runSweep kinds board bindings work sweep))
