@@ -20,7 +20,7 @@ use Rattle.firings.specs.Basics.{cases, all-at, at-in}
 use Rattle.firings.specs.Choosing.{FirstChoice, first-fit-is-first, none-first-exactly-if-none-fits}
 use Rattle.firings.specs.Sweeping.{SweepsDone, sweeps-done}
 use Rattle.firings.specs.Counting.{count-append, usedRows, unused-and-used}
-use Rattle.firings.specs.Deriving.{rule-applied}
+use Rattle.firings.specs.Allowed.{rule-applied}
 
 -- no choice of rows fits the rule
 abbrev pub NoneFits : List Kind → Board → Rule → Type 0

@@ -4,8 +4,9 @@ pub mod Fitting
 pub mod Choosing
 pub mod Sweeping
 pub mod Counting
-pub mod Deriving
+pub mod Variables
+pub mod Allowed
 pub mod Firings
-pub mod Allowing
+pub mod Quiet
 pub mod Runs
 pub mod Keeping
