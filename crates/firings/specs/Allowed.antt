@@ -14,7 +14,7 @@ use Rattle.meaning.specs.Rules.{Term, constant, variable, Atom, Test, Sweep, Ru
 use Rattle.meaning.specs.Fit.{Choice, Marks, Bindings, valuesOf, IsChoice, AtomsEqual, TestsHold, Known, nothingKnown, takeRow}
 use Rattle.meaning.specs.Firing.{Work, headFact, headFacts, taken, bodyWork, unusedRows, ofClass}
 use Rattle.meaning.specs.Translation.{boundBy}
-use Rattle.meaning.specs.Meld.{Sum, vint, _⇓_, eval-int, eval-cmp-int, _⇓⇓_, all-nil, all-cons, Equal, equal-none, equal-int, Form, 𝟏, fact}
+use Rattle.meaning.specs.Meld.{Sum, int, vint, _⇓_, eval-int, eval-cmp-int, _⇓⇓_, all-nil, all-cons, Equal, equal-none, equal-int, Form, 𝟏, fact}
 use Rattle.meaning.specs.Meld.{Match, match-one, match-split, match-end-constraint, match-end-linear, match-end-persistent}
 use Rattle.meaning.specs.Meld.{Derive, derive-⊗, derive-fact, derive-!fact, derive-1, derive-comprehension, derive-&-left, derive-&-right}
 use Rattle.meaning.specs.Meld.{derive-forall, derive-lolli, derive-end, derive-blur, Apply, ⊸L, ∀L}
@@ -29,18 +29,20 @@ use Rattle.firings.specs.Variables.{occurs-bound, own-only, forAll-at}
 
 -- ---- terms
 
-exp-value : (values : Values) (t : Term) → expOf values t ⇓ vint (valueOf values t)
-exp-value values (constant v) = eval-int
-exp-value values (variable x) = eval-int
+pub exp-int : (values : Values) (t : Term) → expOf values t ≡ int (valueOf values t)
+exp-int values (constant v) = refl
+exp-int values (variable x) = refl
 
-exps-equal : (values : Values) (terms : List Term) → Equal (map (valueOf values) terms) (map (expOf values) terms)
-exps-equal values [] = equal-none
-exps-equal values (constant v ∷ terms) = equal-int (exps-equal values terms)
-exps-equal values (variable x ∷ terms) = equal-int (exps-equal values terms)
+exp-value : (values : Values) (t : Term) → expOf values t ⇓ vint (valueOf values t)
+exp-value values t = rw (exp-int values t) eval-int
 
 exps-value : (values : Values) (terms : List Term) → map (expOf values) terms ⇓⇓ map (valueOf values) terms
 exps-value values [] = all-nil
 exps-value values (t ∷ terms) = all-cons (exp-value values t) (exps-value values terms)
+
+exps-equal : (values : Values) (terms : List Term) → Equal (map (valueOf values) terms) (map (expOf values) terms)
+exps-equal values [] = equal-none
+exps-equal values (t ∷ terms) = rw (exp-int values t) (equal-int (exps-equal values terms))
 
 -- ---- match
 
@@ -57,7 +59,8 @@ match-tests Γ values (t ∷ tests) h =
     (match-tests Γ values tests (h .1)) (sum-nothing []) (sum-nothing [])
 
 module _ (kinds : List Kind) (board : Board) (tests : List Test) where
-  match-body : (values : Values) → TestsHold values tests → (atoms : List Atom) (rows : Choice) → IsChoice kinds board atoms rows → AtomsEqual values atoms rows
+  match-body : (values : Values) → TestsHold values tests
+      → (atoms : List Atom) (rows : Choice) → IsChoice kinds board atoms rows → AtomsEqual values atoms rows
       → Match (board .notices) (cardFacts kinds atoms rows) (bodyForm kinds atoms tests values) (cardFacts kinds atoms rows)
   match-body values t [] [] c h = match-tests (board .notices) values tests t
   match-body values t [] (r ∷ rows) c h = absurd h
@@ -74,7 +77,8 @@ module _ (kinds : List Kind) (board : Board) (tests : List Test) where
       rest (sum-nothing cards) (sum-nothing cards)))
 
   -- row by row the cards are taken from those left
-  take-cards : (values : Values) (atoms : List Atom) (rows : Choice) (gone : Marks) → IsChoice kinds board atoms rows → FitsBy kinds tests atoms rows gone values
+  take-cards : (values : Values) (atoms : List Atom) (rows : Choice) (gone : Marks)
+      → IsChoice kinds board atoms rows → FitsBy kinds tests atoms rows gone values
       → Sum (unusedRows 0 gone (board .cards)) (cardFacts kinds atoms rows) (unusedRows 0 (goneAfter kinds atoms rows gone) (board .cards))
   take-cards values [] [] gone c h = rw (gone-nil kinds gone) (sum-nothing (unusedRows 0 gone (board .cards)))
   take-cards values [] (r ∷ rows) gone c h = absurd h
@@ -109,7 +113,8 @@ apply-forAll {Γ} {Δ} {Γ′} {Δ′} {Ξ} = forAll-at (λ B. Apply Γ Δ B Γ�
 
 -- one more fact of a class
 class-snoc : (kinds : List Kind) (f : Fact) (card : Bool) → isCard kinds (f .kind) ≡ card → (made : List Fact)
-    → (ofClass kinds card (made ++ (f ∷ [])) ≡ ofClass kinds card made ++ (f ∷ [])) × (ofClass kinds (not card) (made ++ (f ∷ [])) ≡ ofClass kinds (not card) made)
+    → (ofClass kinds card (made ++ (f ∷ [])) ≡ ofClass kinds card made ++ (f ∷ []))
+    × (ofClass kinds (not card) (made ++ (f ∷ [])) ≡ ofClass kinds (not card) made)
 unfolding ofClass
 class-snoc kinds f true h [] = (rw h, rw h)
 class-snoc kinds f false h [] = (rw h, rw h)
@@ -127,15 +132,22 @@ module _ (kinds : List Kind) (board : Board) (last : Work) where
   abbrev left : Work → List Fact
   left work = unusedRows 0 (work .used) (board .cards)
 
+  abbrev cardsMade : Work → List Fact
+  cardsMade work = ofClass kinds true (work .made)
+
+  abbrev noticesMade : Work → List Fact
+  noticesMade work = ofClass kinds false (work .made)
+
   -- from the work, what is still to be derived leads to the last work
   abbrev Leads : Work → List Form → Type 0
   Leads work Ω =
       (Ξ : List Fact)
-      × Derive (board .notices) (left work) Ω (ofClass kinds true (work .made)) (ofClass kinds false (work .made)) (ofClass kinds false (last .made)) (ofClass kinds true (last .made)) Ξ
+      × Derive (board .notices) (left work) Ω (cardsMade work) (noticesMade work) (noticesMade last) (cardsMade last) Ξ
       × Sum (left work) Ξ (left last)
 
   leads-heads : (bindings : Bindings) (B : Form) (Ω : List Form) (used : Marks) (heads : List Atom) (made : List Fact)
-      → Leads (workOf used (made ++ headFacts bindings heads)) (B ∷ Ω) → Leads (workOf used made) (tensor (atomForm kinds (valuesOf bindings)) heads B ∷ Ω)
+      → Leads (workOf used (made ++ headFacts bindings heads)) (B ∷ Ω)
+      → Leads (workOf used made) (tensor (atomForm kinds (valuesOf bindings)) heads B ∷ Ω)
   leads-heads bindings B Ω used [] made d = rw append-nil at d
   leads-heads bindings B Ω used (h ∷ heads) made d =
       let f : Fact = headFact (valuesOf bindings) h in
@@ -163,13 +175,14 @@ module _ (kinds : List Kind) (board : Board) (last : Work) where
         let spent = sum-append (heads .0) cards in
         let same = own-only xs bindings (k .bindings) sweep named (g .under) (g .binds) in (
           heads .0 ++ cards,
-          derive-comprehension (derive-&-right (derive-⊗ (derive-forAll (sweepMatrix kinds sweep) (valuesOf (k .bindings)) (ownVariables xs sweep) (valuesOf bindings) same
+          derive-comprehension (derive-&-right (derive-⊗
+              (derive-forAll (sweepMatrix kinds sweep) (valuesOf (k .bindings)) (ownVariables xs sweep) (valuesOf bindings) same
               (derive-lolli (matched .0) (matched .1) (heads .1) spent)))),
           record { counts = λ f. omega (arith, matched .1 .counts f, heads .2 .counts f, spent .counts f) },
         )
 
-    leads-sweep : (sweep : Sweep) (Ω : List Form) {work next : Work} {cs : List Choice} {ts : List Taken} → Sweeping kinds sweep bindings work cs ts next
-        → ((c : Choice) → In c cs → IsChoice kinds board (sweep .body) c) → Leads next Ω → Leads work (form sweep ∷ Ω)
+    leads-sweep : (sweep : Sweep) (Ω : List Form) {work next : Work} {cs : List Choice} {ts : List Taken}
+        → Sweeping kinds sweep bindings work cs ts next → ((c : Choice) → In c cs → IsChoice kinds board (sweep .body) c) → Leads next Ω → Leads work (form sweep ∷ Ω)
     leads-sweep sweep Ω over i d = (d .0, derive-comprehension (derive-&-left (derive-1 (d .1))), d .2)
     leads-sweep sweep Ω (passes x l) i d = leads-sweep sweep Ω l (λ c m. i c (List·Memᴰ·tail m)) d
     leads-sweep sweep Ω {work} (takes {c = c} {k = k} g l) i d =

@@ -5,7 +5,7 @@ use mathlib.Core.Logic.{_⊎_, inl, inr, _↔_, ⊎-elim}
 use Prim.Native.Nat.{ℕ, zero, suc, _+_, _<_}
 use native.Mathlib.Nat.{add-zero, zero-add}
 use native.Mathlib.Omega.{arith}
-use mathlib.Core.Bool.{Bool, true, false}
+use mathlib.Core.Bool.{true, false}
 use mathlib.Core.Option.{Option, none, some, Option·some-injective}
 use mathlib.Core.List.{List, [], _∷_, _++_, map, Memᴰ·map}
 use lib.ListN.{getElem?}
@@ -13,7 +13,8 @@ use Rattle.meaning.specs.Basics.{All}
 use Rattle.meaning.specs.Facts.{Kind, Fact, Board}
 use Rattle.meaning.specs.Rules.{Rule, Book}
 use Rattle.meaning.specs.Fit.{Choice, noMarks, IsChoice, Fits, Known, nothingKnown, firstFit}
-use Rattle.meaning.specs.Firing.{Work, ruleWork, bodyWork, unusedRows, ofClass, boardAfter, hasRoom, Firing, quiet, full, fired, settle, fireRule, fireFrom, fire}
+use Rattle.meaning.specs.Firing.{Work, bodyWork, ruleWork, unusedRows, ofClass, boardAfter, hasRoom}
+use Rattle.meaning.specs.Firing.{Firing, quiet, full, fired, settle, fireRule, fireFrom, fire}
 use Rattle.meaning.specs.Meld.{count, Apply, Step, rule-app, ruleForm}
 use Rattle.meaning.specs.WellFormed.{GoodRule, GoodBook}
 use Rattle.firings.specs.Basics.{cases, all-at, at-in}
@@ -37,18 +38,22 @@ pub record FirstRule (kinds : List Kind) (board : Board) (rules : List Rule) : T
   pub known : Known
   pub first : FirstChoice kinds board (rule .body) (rule .tests) nothingKnown known
 
-pub first-rule-fits : (kinds : List Kind) (board : Board) (rules : List Rule) → FirstRule kinds board rules → All (NoneFits kinds board) rules → ⊥
-first-rule-fits kinds board rules w h =
-    all-at (NoneFits kinds board) rules (w .place) h (w .listed) (w .first .choice) (w .first .isChoice) (w .first .gives .fits)
-
--- either no rule fits, and it is quiet; or the first rule that fits is settled
-abbrev pub Look : List Kind → Board → ℕ → List Rule → Firing → Type 0
-Look kinds board n rules found =
-    (All (NoneFits kinds board) rules × (found ≡ quiet))
-    ⊎ ((w : FirstRule kinds board rules) × (found ≡ settle kinds board (n + w .place) (ruleWork kinds board (w .rule) (w .known))))
-
 module _ (kinds : List Kind) (board : Board) where
-  later : (n : ℕ) (rule : Rule) (rules : List Rule) (found : Firing) → NoneFits kinds board rule → Look kinds board (suc n) rules found → Look kinds board n (rule ∷ rules) found
+  -- what its firing does
+  abbrev pub workBy : {rules : List Rule} → FirstRule kinds board rules → Work
+  workBy w = ruleWork kinds board (w .rule) (w .known)
+
+  pub first-rule-fits : (rules : List Rule) → FirstRule kinds board rules → All (NoneFits kinds board) rules → ⊥
+  first-rule-fits rules w h =
+      all-at (NoneFits kinds board) rules (w .place) h (w .listed) (w .first .choice) (w .first .isChoice) (w .first .gives .fits)
+
+  -- either no rule fits, and it is quiet; or the first rule that fits is settled
+  abbrev pub Look : ℕ → List Rule → Firing → Type 0
+  Look n rules found =
+      (All (NoneFits kinds board) rules × (found ≡ quiet))
+      ⊎ ((w : FirstRule kinds board rules) × (found ≡ settle kinds board (n + w .place) (workBy w)))
+
+  later : (n : ℕ) (rule : Rule) (rules : List Rule) (found : Firing) → NoneFits kinds board rule → Look (suc n) rules found → Look n (rule ∷ rules) found
   later n rule rules found h (inl w) = inl ((h, w .0), w .1)
   later n rule rules found h (inr w) = inr (
     record {
@@ -62,17 +67,18 @@ module _ (kinds : List Kind) (board : Board) where
       known = w .0 .known;
       first = w .0 .first;
     },
-    w .1 ∙ ap (λ (m : ℕ). settle kinds board m (ruleWork kinds board (w .0 .rule) (w .0 .known))) (omega arith),
+    w .1 ∙ ap (λ (m : ℕ). settle kinds board m (workBy (w .0))) (omega arith),
   )
 
-  pub look : (n : ℕ) (rules : List Rule) → All (GoodRule kinds) rules → Look kinds board n rules (fireFrom kinds board n rules)
+  pub look : (n : ℕ) (rules : List Rule) → All (GoodRule kinds) rules → Look n rules (fireFrom kinds board n rules)
   unfolding fireFrom
   look n [] good = inl (tt, refl)
   look n (rule ∷ rules) good = go (firstFit kinds board (rule .body) (rule .tests) nothingKnown) refl (look (suc n) rules (good .1))
     where
-      go : (o : Option Known) → firstFit kinds board (rule .body) (rule .tests) nothingKnown ≡ o → Look kinds board (suc n) rules (fireFrom kinds board (suc n) rules)
-          → Look kinds board n (rule ∷ rules) (fireRule kinds board n rule o (fireFrom kinds board (suc n) rules))
-      go none e w = later n rule rules _ (none-first-exactly-if-none-fits kinds board (rule .body) (rule .tests) nothingKnown (good .0 .group .goodTests) .0 e) w
+      go : (o : Option Known) → firstFit kinds board (rule .body) (rule .tests) nothingKnown ≡ o
+          → Look (suc n) rules (fireFrom kinds board (suc n) rules) → Look n (rule ∷ rules) (fireRule kinds board n rule o (fireFrom kinds board (suc n) rules))
+      go none e w =
+          later n rule rules _ (none-first-exactly-if-none-fits kinds board (rule .body) (rule .tests) nothingKnown (good .0 .group .goodTests) .0 e) w
       go (some k) e w = inr (
         record {
           place = 0;
@@ -85,31 +91,33 @@ module _ (kinds : List Kind) (board : Board) where
         ap (λ (m : ℕ). settle kinds board m (ruleWork kinds board rule k)) (sym (add-zero n)),
       )
 
-module _ (kinds : List Kind) (board : Board) (n : ℕ) (work : Work) where
-  settle-fired : {r : ℕ} {board′ : Board} → settle kinds board n work ≡ fired r board′ → (r ≡ n) × (board′ ≡ boardAfter kinds board work) × (hasRoom board′ ≡ true)
-  settle-fired {r} {board′} h =
-      cases (hasRoom (boardAfter kinds board work))
-      (λ y. let k : fired n (boardAfter kinds board work) ≡ fired r board′ = rw y at h in
-      let e : board′ ≡ boardAfter kinds board work = cc in
-      ((cc), e, rw e y))
-      (λ y. let k : full ≡ fired r board′ = rw y at h in let z : _≡_ {A = ℕ} 0 1 = cc in absurd (omega arith))
+  -- what is settled has fired where there is room, is full where there is none, and is never quiet
+  module _ (n : ℕ) (work : Work) where
+    abbrev after : Board
+    after = boardAfter kinds board work
 
-  settle-full : settle kinds board n work ≡ full → hasRoom (boardAfter kinds board work) ≡ false
-  settle-full h =
-      cases (hasRoom (boardAfter kinds board work))
-      (λ y. let k : fired n (boardAfter kinds board work) ≡ full = rw y at h in let z : _≡_ {A = ℕ} 0 1 = cc in absurd (omega arith))
-      (λ y. y)
+    settle-fired : {r : ℕ} {board′ : Board} → settle kinds board n work ≡ fired r board′ → (r ≡ n) × (board′ ≡ after) × (hasRoom board′ ≡ true)
+    settle-fired {r} {board′} h =
+        cases (hasRoom after)
+        (λ y. let k : fired n after ≡ fired r board′ = rw y at h in let e : board′ ≡ after = cc in ((cc), e, rw e y))
+        (λ y. let k : full ≡ fired r board′ = rw y at h in let z : _≡_ {A = ℕ} 0 1 = cc in absurd (omega arith))
 
-  settle-not-quiet : settle kinds board n work ≡ quiet → ⊥
-  settle-not-quiet h =
-      cases (hasRoom (boardAfter kinds board work))
-      (λ y. let k : fired n (boardAfter kinds board work) ≡ quiet = rw y at h in let z : _≡_ {A = ℕ} 0 1 = cc in omega arith)
-      (λ y. let k : full ≡ quiet = rw y at h in let z : _≡_ {A = ℕ} 0 1 = cc in omega arith)
+    settle-full : settle kinds board n work ≡ full → hasRoom after ≡ false
+    settle-full h = cases (hasRoom after) (λ y. let k : fired n after ≡ full = rw y at h in let z : _≡_ {A = ℕ} 0 1 = cc in absurd (omega arith)) (λ y. y)
+
+    settle-not-quiet : settle kinds board n work ≡ quiet → ⊥
+    settle-not-quiet h =
+        cases (hasRoom after)
+        (λ y. let k : fired n after ≡ quiet = rw y at h in let z : _≡_ {A = ℕ} 0 1 = cc in omega arith)
+        (λ y. let k : full ≡ quiet = rw y at h in let z : _≡_ {A = ℕ} 0 1 = cc in omega arith)
 
 -- ---- allowed by Meld 2.0
 
--- "Each firing of a book's run is one that Meld 2.0 Semantics allows": Γ; Δ ⇒ Γ′; Δ′; Ξ, where Γ′ is exactly the notices made, Δ′ the cards made and Ξ
--- the cards used. "Cards before, less cards used, plus cards made, are the cards after, with equal cards counted apart."
+-- Φ; Γ; Δ ⇒ Γ′; Δ′; Ξ, for the book's rules, and the notices and cards of the board
+abbrev pub Allows : Book → Board → List Fact → List Fact → List Fact → Type 0
+Allows book board Γ′ Δ′ Ξ = Step (board .notices) (board .cards) (map (ruleForm (book .kinds)) (book .rules)) Γ′ Δ′ Ξ
+
+-- such a step, where Γ′ is exactly the notices made, Δ′ the cards made and Ξ the cards used
 pub record MeldStep (book : Book) (board : Board) (rule : Rule) (work : Work) (board′ : Board) : Type 0 where
   pub Γ′ : List Fact
   pub Δ′ : List Fact
@@ -117,35 +125,15 @@ pub record MeldStep (book : Book) (board : Board) (rule : Rule) (work : Work) (b
   pub noticesMade : Γ′ ≡ ofClass (book .kinds) false (work .made)
   pub cardsMade : Δ′ ≡ ofClass (book .kinds) true (work .made)
   pub cardsUsed : Ξ ≡ usedRows 0 (work .used) (board .cards)
+  -- "Each firing of a book's run is one that Meld 2.0 Semantics allows"
   pub applied : Apply (board .notices) (board .cards) (ruleForm (book .kinds) rule) Γ′ Δ′ Ξ
-  pub stepped : Step (board .notices) (board .cards) (map (ruleForm (book .kinds)) (book .rules)) Γ′ Δ′ Ξ
+  pub stepped : Allows book board Γ′ Δ′ Ξ
   -- "New cards: unused rows in old order, then made cards. Notices: the old ones, then made ones"
   pub cards : board′ .cards ≡ unusedRows 0 (work .used) (board .cards) ++ Δ′
   pub notices : board′ .notices ≡ board .notices ++ Γ′
+  -- "Cards before, less cards used, plus cards made, are the cards after, with equal cards counted apart."
   pub cardCounts : (f : Fact) → count f (board .cards) + count f Δ′ ≡ count f (board′ .cards) + count f Ξ
   pub noticeCounts : (f : Fact) → count f (board .notices) + count f Γ′ ≡ count f (board′ .notices)
-
-meld-step : (book : Book) (board : Board) (rule : Rule) (number : ℕ) (work : Work) → getElem? (book .rules) number ≡ some rule
-    → Apply (board .notices) (board .cards) (ruleForm (book .kinds) rule) (ofClass (book .kinds) false (work .made)) (ofClass (book .kinds) true (work .made)) (usedRows 0 (work .used) (board .cards))
-    → MeldStep book board rule work (boardAfter (book .kinds) board work)
-meld-step book board rule number work listed applied =
-    let Γ′ = ofClass (book .kinds) false (work .made) in
-    let Δ′ = ofClass (book .kinds) true (work .made) in
-    let left = unusedRows 0 (work .used) (board .cards) in
-    record {
-      Γ′ = Γ′;
-      Δ′ = Δ′;
-      Ξ = usedRows 0 (work .used) (board .cards);
-      noticesMade = refl;
-      cardsMade = refl;
-      cardsUsed = refl;
-      applied = applied;
-      stepped = rule-app (Memᴰ·map (ruleForm (book .kinds)) (at-in (book .rules) number listed)) applied;
-      cards = refl;
-      notices = refl;
-      cardCounts = λ f. omega (arith, count-append f left Δ′, unused-and-used 0 (work .used) (board .cards) .counts f);
-      noticeCounts = λ f. sym (count-append f (board .notices) Γ′);
-    }
 
 -- ---- a firing
 
@@ -157,40 +145,56 @@ pub record FiringIs (book : Book) (board : Board) (number : ℕ) (board′ : Boa
   -- "and its first one": the choice, its values and the card rows that it uses
   pub known : Known
   pub first : FirstChoice (book .kinds) board (rule .body) (rule .tests) nothingKnown known
-  -- "Its sweeps then run in file order, under the body's values."
+  -- "Its sweeps then run in file order, under the body's values." "Made facts are listed: the rule's head atoms in order", then theirs
   pub work : Work
   pub swept : SweepsDone (book .kinds) board (known .bindings) (bodyWork rule known) (rule .sweeps) work
-  -- the board after has room
+  -- the board after, and it has room
   pub after : board′ ≡ boardAfter (book .kinds) board work
   pub room : hasRoom board′ ≡ true
   -- and Meld allows the step
   pub meld : MeldStep book board rule work board′
 
--- "the run ends with FULL and the firing hasn't happened; later rules aren't tried": the first rule with a fitting choice would overfill the board
+-- the first rule with a fitting choice would overfill the board
 pub record FullIs (book : Book) (board : Board) : Type 0 where
   pub would : FirstRule (book .kinds) board (book .rules)
-  pub swept : SweepsDone (book .kinds) board (would .known .bindings) (bodyWork (would .rule) (would .known)) (would .rule .sweeps) (ruleWork (book .kinds) board (would .rule) (would .known))
-  pub noRoom : hasRoom (boardAfter (book .kinds) board (ruleWork (book .kinds) board (would .rule) (would .known))) ≡ false
+  pub work : Work
+  pub swept : SweepsDone (book .kinds) board (would .known .bindings) (bodyWork (would .rule) (would .known)) (would .rule .sweeps) work
+  pub noRoom : hasRoom (boardAfter (book .kinds) board work) ≡ false
 
 module _ (book : Book) (good : GoodBook book) (board : Board) where
   swept-by : (w : FirstRule (book .kinds) board (book .rules))
-      → SweepsDone (book .kinds) board (w .known .bindings) (bodyWork (w .rule) (w .known)) (w .rule .sweeps) (ruleWork (book .kinds) board (w .rule) (w .known))
+      → SweepsDone (book .kinds) board (w .known .bindings) (bodyWork (w .rule) (w .known)) (w .rule .sweeps) (workBy (book .kinds) board w)
   swept-by w =
       let r = all-at (GoodRule (book .kinds)) (book .rules) (w .place) (good .rules) (w .listed) in
       sweeps-done (book .kinds) board (w .known .bindings) (w .rule .body) (w .first .gives .binds) (w .rule .sweeps) (r .sweeps) (bodyWork (w .rule) (w .known))
 
   -- the first rule that fits makes a step that Meld allows, whether or not the board has room
-  pub meld-by : (w : FirstRule (book .kinds) board (book .rules)) → let work = ruleWork (book .kinds) board (w .rule) (w .known) in MeldStep book board (w .rule) work (boardAfter (book .kinds) board work)
+  pub meld-by : (w : FirstRule (book .kinds) board (book .rules))
+      → MeldStep book board (w .rule) (workBy (book .kinds) board w) (boardAfter (book .kinds) board (workBy (book .kinds) board w))
   meld-by w =
-      let work = ruleWork (book .kinds) board (w .rule) (w .known) in
-      meld-step book board (w .rule) (w .place) work (w .listed)
-      (rule-applied (book .kinds) board (w .rule) (w .first .choice) (w .known) work (w .first .isChoice) (w .first .gives) (swept-by w))
+      let work = workBy (book .kinds) board w in
+      let Γ′ = ofClass (book .kinds) false (work .made) in
+      let Δ′ = ofClass (book .kinds) true (work .made) in
+      let applied = rule-applied (book .kinds) board (w .rule) (w .first .choice) (w .known) work (w .first .isChoice) (w .first .gives) (swept-by w) in
+      record {
+        Γ′ = Γ′;
+        Δ′ = Δ′;
+        Ξ = usedRows 0 (work .used) (board .cards);
+        noticesMade = refl;
+        cardsMade = refl;
+        cardsUsed = refl;
+        applied = applied;
+        stepped = rule-app (Memᴰ·map (ruleForm (book .kinds)) (at-in (book .rules) (w .place) (w .listed))) applied;
+        cards = refl;
+        notices = refl;
+        cardCounts = λ f. omega (arith, count-append f (unusedRows 0 (work .used) (board .cards)) Δ′, unused-and-used 0 (work .used) (board .cards) .counts f);
+        noticeCounts = λ f. sym (count-append f (board .notices) Γ′);
+      }
 
   firing-by : {number : ℕ} {board′ : Board} (w : FirstRule (book .kinds) board (book .rules))
-      → settle (book .kinds) board (0 + w .place) (ruleWork (book .kinds) board (w .rule) (w .known)) ≡ fired number board′ → FiringIs book board number board′
+      → settle (book .kinds) board (0 + w .place) (workBy (book .kinds) board w) ≡ fired number board′ → FiringIs book board number board′
   firing-by {number} w h =
-      let work = ruleWork (book .kinds) board (w .rule) (w .known) in
-      let s = settle-fired (book .kinds) board (0 + w .place) work h in
+      let s = settle-fired (book .kinds) board (0 + w .place) (workBy (book .kinds) board w) h in
       let p : number ≡ w .place = s .0 ∙ zero-add (w .place) in
       record {
         rule = w .rule;
@@ -198,14 +202,14 @@ module _ (book : Book) (good : GoodBook book) (board : Board) where
         noneEarlier = λ j earlier l. w .noneEarlier j earlier (omega arith);
         known = w .known;
         first = w .first;
-        work = work;
+        work = workBy (book .kinds) board w;
         swept = swept-by w;
         after = s .1;
         room = s .2;
         meld = rw (s .1) (meld-by w);
       }
 
-  -- "Among possible firings it takes the first rule's first fit in document 01's order", and each firing "is one that Meld 2.0 Semantics allows".
+  -- "Among possible firings it takes the first rule's first fit in document 01's order", and each "is one that Meld 2.0 Semantics allows".
   pub firing-is : {number : ℕ} {board′ : Board} → fire book board ≡ fired number board′ → FiringIs book board number board′
   unfolding fire
   firing-is {number} {board′} h =
@@ -217,10 +221,15 @@ module _ (book : Book) (good : GoodBook book) (board : Board) where
   unfolding fire
   full-is h =
       ⊎-elim (λ w. let k : quiet ≡ full = sym (w .1) ∙ h in let z : _≡_ {A = ℕ} 0 1 = cc in absurd (omega arith))
-      (λ w. record { would = w .0; swept = swept-by (w .0); noRoom = settle-full (book .kinds) board (0 + w .0 .place) _ (sym (w .1) ∙ h) })
+      (λ w. record {
+        would = w .0;
+        work = workBy (book .kinds) board (w .0);
+        swept = swept-by (w .0);
+        noRoom = settle-full (book .kinds) board (0 + w .0 .place) (workBy (book .kinds) board (w .0)) (sym (w .1) ∙ h);
+      })
       (look (book .kinds) board 0 (book .rules) (good .rules))
 
-  -- "QUIET if no rule fits": quiet "exactly if no choice of rows fits any rule".
+  -- "QUIET if no rule fits": a firing is quiet exactly if "no choice of rows fits any rule".
   pub quiet-exactly-if-none-fits : (fire book board ≡ quiet) ↔ All (NoneFits (book .kinds) board) (book .rules)
   unfolding fire
   quiet-exactly-if-none-fits =
