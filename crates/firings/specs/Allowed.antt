@@ -182,7 +182,8 @@ module _ (kinds : List Kind) (board : Board) (last : Work) where
         )
 
     leads-sweep : (sweep : Sweep) (Ω : List Form) {work next : Work} {cs : List Choice} {ts : List Taken}
-        → Sweeping kinds sweep bindings work cs ts next → ((c : Choice) → In c cs → IsChoice kinds board (sweep .body) c) → Leads next Ω → Leads work (form sweep ∷ Ω)
+        → Sweeping kinds sweep bindings work cs ts next → ((c : Choice) → In c cs → IsChoice kinds board (sweep .body) c)
+        → Leads next Ω → Leads work (form sweep ∷ Ω)
     leads-sweep sweep Ω over i d = (d .0, derive-comprehension (derive-&-left (derive-1 (d .1))), d .2)
     leads-sweep sweep Ω (passes x l) i d = leads-sweep sweep Ω l (λ c m. i c (List·Memᴰ·tail m)) d
     leads-sweep sweep Ω {work} (takes {c = c} {k = k} g l) i d =

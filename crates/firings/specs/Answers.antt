@@ -97,7 +97,8 @@ module _ {A : Type 0} {view : A → Bindings} {Q : A → Type 0} {P : Values →
     answers-then f (nothing n) k = nothing (λ values u p. n values u (p .0))
     answers-then f (just {a = a} q w) k = go (k a q w)
       where
-        go : {o : Option B} → Answers view′ Q′ P′ occurs′ (view a) o → Answers view′ Q′ (λ values. P values × P′ values) (λ x. occurs x || occurs′ x) bindings o
+        go : {o : Option B} → Answers view′ Q′ P′ occurs′ (view a) o
+            → Answers view′ Q′ (λ values. P values × P′ values) (λ x. occurs x || occurs′ x) bindings o
         go (nothing n) = nothing (λ values u p. n values (w .exactly values .1 (u, p .0)) (p .1))
         go (just q′ z) = just q′ (found-then w z)
 
@@ -117,7 +118,7 @@ found-new : (x n : ℕ) (bindings : Bindings) → lookup x bindings ≡ none →
 found-new x n bindings e = record {
   exactly = λ values. (
     (λ u. (
-      (λ y v k. cases (eqb y x) (λ q. absurd (Option·none-ne-some v (sym (ap (λ (i : ℕ). lookup i bindings) (eqb-true y x q) ∙ e) ∙ k))) (λ q. u y v (rw q k))),
+      (λ y v k. cases (eqb y x) (λ q. absurd (Option·none-ne-some v (sym e ∙ (rw (← (eqb-true y x q)) k)))) (λ q. u y v (rw q k))),
       u x n (rw (eq-eqb x x refl)),
     )),
     λ u y v k. cases (eqb y x) (λ q. ap values (eqb-true y x q) ∙ u .1 ∙ Option·some-injective n v (rw q at k)) (λ q. u .0 y v (rw q at k)),
@@ -260,4 +261,4 @@ fit-answers kinds tests (a ∷ atoms) (r ∷ rows) known good =
     (answers-then (λ k. fit kinds atoms tests rows k) (fitRow-answers kinds a r known) λ k q w.
     answers-map (λ k′ p. p ∙ ap (goneAfter kinds atoms rows) q) (λ values. rw q Iff·rfl) (λ x. refl)
     (fit-answers kinds tests atoms rows k (good-tests _ _ (λ x h.
-    ap (λ (t : Bool). t || occursIn x atoms) (w .binds x) ∙ or-assoc (isBound (known .bindings) x) (occursInTerms x (a .terms)) (occursIn x atoms) ∙ h) tests good)))
+    rw (w .binds x, or-assoc (isBound (known .bindings) x) (occursInTerms x (a .terms)) (occursIn x atoms)) h) tests good)))

@@ -7,7 +7,7 @@ use mathlib.Core.Option.{some, Option·some-injective, Option·none-ne-some}
 use mathlib.Core.List.{List, [], _∷_, _++_, List·Memᴰ·head, List·Memᴰ·tail}
 use lib.ListN.{getElem?}
 use lib.Dec.{eqb}
-use borrow.Author.Tests.{eqb-true, eq-eqb}
+use borrow.Author.Tests.{eq-eqb}
 use Rattle.meaning.specs.Basics.{mem, In, All}
 use Rattle.meaning.specs.Facts.{Fact}
 

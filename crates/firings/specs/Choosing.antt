@@ -156,7 +156,8 @@ module _ {B : Type 0} (f : Choice → Option B) where
         c,
         List·Memᴰ·head refl,
         e ∙ k,
-        λ d m b. absurd (⊎-elim (λ q. before-self c (subst (λ (s : Choice). Before s c) q b)) (λ l. before-asymmetric c d (p .0 d l) b) (List·Memᴰ·cases-cons m)),
+        λ d m b. absurd
+            (⊎-elim (λ q. before-self c (subst (λ (s : Choice). Before s c) q b)) (λ l. before-asymmetric c d (p .0 d l) b) (List·Memᴰ·cases-cons m)),
       )
       go none e k later =
           let w = later k in

@@ -1,9 +1,9 @@
 -- Multi-sets, by counting; and the rows that marks leave and take. Each step is one `omega` over the counts of one fact.
-use mathlib.Core.Path.{_≡_, refl, sym, ap, ap₂, _∙_}
-use Prim.Native.Nat.{ℕ, zero, suc, _+_, _≤_, _<_}
+use mathlib.Core.Path.{_≡_, refl, ap, ap₂}
+use Prim.Native.Nat.{ℕ, zero, suc, _+_, _<_}
 use native.Mathlib.Nat.{add-zero, add-suc, suc-add}
 use native.Mathlib.Omega.{arith}
-use mathlib.Core.Bool.{Bool, true, false, _&&_, false≢true}
+use mathlib.Core.Bool.{true, false, false≢true}
 use mathlib.Core.Option.{some, Option·some-injective, Option·none-ne-some}
 use mathlib.Core.List.{List, [], _∷_, _++_}
 use lib.ListN.{getElem?}
@@ -97,7 +97,8 @@ unfolding unusedRows
 mark-takes n i used [] f e h = absurd (Option·none-ne-some f e)
 mark-takes n zero used (x ∷ facts) f e h =
     let p : used n ≡ false = rw add-zero at h in
-    rw (add-zero n, p, eq-eqb n n refl, mark-below (suc n) n used facts (omega arith), ← (Option·some-injective x f e)) (sum-cons x (unusedRows (suc n) used facts))
+    let below = mark-below (suc n) n used facts (omega arith) in
+    rw (add-zero n, p, eq-eqb n n refl, below, ← (Option·some-injective x f e)) (sum-cons x (unusedRows (suc n) used facts))
 mark-takes n (suc i) used (x ∷ facts) f e h =
     let q : eqb n (n + suc i) ≡ false = ne-eqb n (n + suc i) (omega arith) in
     let r : Sum (unusedRows (suc n) used facts) (f ∷ []) (unusedRows (suc n) (mark (n + suc i) used) facts) =

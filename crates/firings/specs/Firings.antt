@@ -76,7 +76,8 @@ module _ (kinds : List Kind) (board : Board) where
   look n (rule ∷ rules) good = go (firstFit kinds board (rule .body) (rule .tests) nothingKnown) refl (look (suc n) rules (good .1))
     where
       go : (o : Option Known) → firstFit kinds board (rule .body) (rule .tests) nothingKnown ≡ o
-          → Look (suc n) rules (fireFrom kinds board (suc n) rules) → Look n (rule ∷ rules) (fireRule kinds board n rule o (fireFrom kinds board (suc n) rules))
+          → Look (suc n) rules (fireFrom kinds board (suc n) rules)
+          → Look n (rule ∷ rules) (fireRule kinds board n rule o (fireFrom kinds board (suc n) rules))
       go none e w =
           later n rule rules _ (none-first-exactly-if-none-fits kinds board (rule .body) (rule .tests) nothingKnown (good .0 .group .goodTests) .0 e) w
       go (some k) e w = inr (
@@ -103,7 +104,8 @@ module _ (kinds : List Kind) (board : Board) where
         (λ y. let k : full ≡ fired r board′ = rw y at h in let z : _≡_ {A = ℕ} 0 1 = cc in absurd (omega arith))
 
     settle-full : settle kinds board n work ≡ full → hasRoom after ≡ false
-    settle-full h = cases (hasRoom after) (λ y. let k : fired n after ≡ full = rw y at h in let z : _≡_ {A = ℕ} 0 1 = cc in absurd (omega arith)) (λ y. y)
+    settle-full h =
+        cases (hasRoom after) (λ y. let k : fired n after ≡ full = rw y at h in let z : _≡_ {A = ℕ} 0 1 = cc in absurd (omega arith)) (λ y. y)
 
     settle-not-quiet : settle kinds board n work ≡ quiet → ⊥
     settle-not-quiet h =
@@ -165,8 +167,9 @@ module _ (book : Book) (good : GoodBook book) (board : Board) where
   swept-by : (w : FirstRule (book .kinds) board (book .rules))
       → SweepsDone (book .kinds) board (w .known .bindings) (bodyWork (w .rule) (w .known)) (w .rule .sweeps) (workBy (book .kinds) board w)
   swept-by w =
+      let rule = w .rule in
       let r = all-at (GoodRule (book .kinds)) (book .rules) (w .place) (good .rules) (w .listed) in
-      sweeps-done (book .kinds) board (w .known .bindings) (w .rule .body) (w .first .gives .binds) (w .rule .sweeps) (r .sweeps) (bodyWork (w .rule) (w .known))
+      sweeps-done (book .kinds) board (w .known .bindings) (rule .body) (w .first .gives .binds) (rule .sweeps) (r .sweeps) (bodyWork rule (w .known))
 
   -- the first rule that fits makes a step that Meld allows, whether or not the board has room
   pub meld-by : (w : FirstRule (book .kinds) board (book .rules))
@@ -175,6 +178,7 @@ module _ (book : Book) (good : GoodBook book) (board : Board) where
       let work = workBy (book .kinds) board w in
       let Γ′ = ofClass (book .kinds) false (work .made) in
       let Δ′ = ofClass (book .kinds) true (work .made) in
+      let left = unusedRows 0 (work .used) (board .cards) in
       let applied = rule-applied (book .kinds) board (w .rule) (w .first .choice) (w .known) work (w .first .isChoice) (w .first .gives) (swept-by w) in
       record {
         Γ′ = Γ′;
@@ -187,7 +191,7 @@ module _ (book : Book) (good : GoodBook book) (board : Board) where
         stepped = rule-app (Memᴰ·map (ruleForm (book .kinds)) (at-in (book .rules) (w .place) (w .listed))) applied;
         cards = refl;
         notices = refl;
-        cardCounts = λ f. omega (arith, count-append f (unusedRows 0 (work .used) (board .cards)) Δ′, unused-and-used 0 (work .used) (board .cards) .counts f);
+        cardCounts = λ f. omega (arith, count-append f left Δ′, unused-and-used 0 (work .used) (board .cards) .counts f);
         noticeCounts = λ f. sym (count-append f (board .notices) Γ′);
       }
 

@@ -81,7 +81,8 @@ module _ (kinds : List Kind) (atoms : List Atom) (tests : List Test) (rows : Cho
       → Fits kinds atoms tests rows (known .bindings) (known .gone)
   fits-by values u h =
       let w = fits-split kinds tests values atoms rows (known .gone) .0 h in
-      record { ofKind = equal-kinds values atoms rows (w .1); apart = w .0 .0; unused = w .0 .1; values = values; under = u; equal = w .1; tested = w .2 }
+      let kinds′ = equal-kinds values atoms rows (w .1) in
+      record { ofKind = kinds′; apart = w .0 .0; unused = w .0 .1; values = values; under = u; equal = w .1; tested = w .2 }
 
   module _ (bound : BoundTests (known .bindings) atoms tests) where
     pub fit-gives : {k : Known} → fit kinds atoms tests rows known ≡ some k → FitGives kinds atoms tests rows known k

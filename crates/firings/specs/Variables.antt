@@ -2,7 +2,7 @@
 -- be taken at the values found.
 use mathlib.Core.Path.{_≡_, refl, sym, ap, _∙_, subst, fun-ext}
 use Prim.Native.Nat.{ℕ}
-use mathlib.Core.Bool.{true, false, _||_, true≢false, or-false, or-assoc, or-comm}
+use mathlib.Core.Bool.{false, _||_, true≢false, or-false, or-assoc, or-comm}
 use mathlib.Core.List.{List, [], _∷_}
 use lib.Dec.{eqb}
 use borrow.Author.Tests.{eqb-true, ne-eqb}
