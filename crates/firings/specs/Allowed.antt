@@ -21,10 +21,12 @@ use Rattle.meaning.specs.Meld.{derive-forall, derive-lolli, derive-end, derive-
 use Rattle.meaning.specs.Meld.{expOf, atomForm, testForm, tensor, bodyForm, forAll, ownVariables, sweepMatrix, sweepForm, ruleMatrix, ruleForm}
 use Rattle.firings.specs.Basics.{cases, at-in}
 use Rattle.firings.specs.Counting.{sum-append, sum-cons, sum-nothing, sum-then, usedRows, unused-and-used, unused-all, mark-takes}
-use Rattle.firings.specs.Answers.{isBound, unbound-zero, FitsBy, goneAfter, gone-nil, gone-cons}
+use Rattle.firings.specs.CardRows.{goneAfter, gone-nil, gone-cons}
+use Rattle.firings.specs.Answers.{isBound, unbound-zero, FitsBy}
 use Rattle.firings.specs.Fitting.{FitGives, by-fits}
 use Rattle.firings.specs.Choosing.{choices-exactly}
-use Rattle.firings.specs.Sweeping.{Taken, Sweeping, over, passes, takes, SweepsDone, no-sweep, sweep-then}
+use Rattle.firings.specs.Sweeping.{Taken, Sweeping, over, passes, takes}
+use Rattle.firings.specs.Sweeps.{SweepsDone, no-sweep, sweep-then}
 use Rattle.firings.specs.Variables.{occurs-bound, own-only, forAll-at}
 
 -- ---- terms

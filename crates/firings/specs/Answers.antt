@@ -1,6 +1,6 @@
 -- What `fit` answers, from a term to an atom to a choice: an answer says exactly which values are left. One notion, `Answers`, and one law for an answer
 -- that follows on another carry the whole proof.
-use mathlib.Core.Path.{_≡_, refl, sym, ap, ap₂, _∙_, fun-ext}
+use mathlib.Core.Path.{_≡_, refl, sym, ap, ap₂, _∙_}
 use mathlib.Core.Logic.{_↔_, Iff·rfl, Iff·symm, Iff·trans, Iff·and}
 use Prim.Native.Nat.{ℕ}
 use mathlib.Core.Bool.{Bool, true, false, _&&_, _||_, false≢true, true≢false, or-assoc, or-false, or-true}
@@ -8,14 +8,15 @@ use mathlib.Core.Option.{Option, none, some, Option·some-injective, Option·non
 use mathlib.Core.List.{List, [], _∷_, map, nil≢cons, cons≢nil, cons-eq-cons}
 use lib.Dec.{eqb}
 use borrow.Author.Tests.{eqb-true, eqb-false, eq-eqb}
-use Rattle.meaning.specs.Basics.{if_then_else_, _>>=_, mem, All}
+use Rattle.meaning.specs.Basics.{if_then_else_, _>>=_, All}
 use Rattle.meaning.specs.Facts.{Kind, Fact, isCard}
 use Rattle.meaning.specs.Rules.{Term, constant, variable, Atom, Test, compare, Values, valueOf, holds, occursInTerms, occursIn}
-use Rattle.meaning.specs.Fit.{Row, Choice, Marks, Bindings, Known, lookup, orZero, valuesOf, cardRows, TestsHold, Under}
+use Rattle.meaning.specs.Fit.{Row, Choice, Marks, Bindings, Known, lookup, orZero, valuesOf, TestsHold, Under}
 use Rattle.meaning.specs.Fit.{agreeVariable, agree, agreeAll, free, takeRow, mayStand, fitRow, holdAll, fit}
 use Rattle.meaning.specs.Firing.{headFact}
 use Rattle.meaning.specs.WellFormed.{GoodTerm, GoodTest}
 use Rattle.firings.specs.Basics.{cases, both, all-map, equal-facts}
+use Rattle.firings.specs.CardRows.{goneAfter, gone-nil, gone-cons}
 
 -- ---- bindings
 
@@ -234,18 +235,6 @@ FitsBy kinds tests [] (r ∷ rows) gone values = ⊥
 FitsBy kinds tests (a ∷ atoms) [] gone values = ⊥
 FitsBy kinds tests (a ∷ atoms) (r ∷ rows) gone values =
     RowFits kinds a r gone values × FitsBy kinds tests atoms rows (takeRow (isCard kinds (a .kind)) (r .at) gone) values
-
--- gone after a choice: what was gone, and the rows of its card atoms
-abbrev pub goneAfter : List Kind → List Atom → Choice → Marks → Marks
-goneAfter kinds atoms rows gone = λ n. gone n || mem n (cardRows kinds atoms rows)
-
-pub gone-nil : (kinds : List Kind) (gone : Marks) → goneAfter kinds [] [] gone ≡ gone
-gone-nil kinds gone = fun-ext λ n. or-false (gone n)
-
-pub gone-cons : (kinds : List Kind) (a : Atom) (atoms : List Atom) (r : Row) (rows : Choice) (gone : Marks)
-    → goneAfter kinds atoms rows (takeRow (isCard kinds (a .kind)) (r .at) gone) ≡ goneAfter kinds (a ∷ atoms) (r ∷ rows) gone
-gone-cons kinds a atoms r rows gone =
-    fun-ext λ n. cases (isCard kinds (a .kind)) (λ y. rw y (or-assoc (gone n) (eqb n (r .at)) (mem n (cardRows kinds atoms rows)))) (λ y. rw y)
 
 pub fit-answers : (kinds : List Kind) (tests : List Test) (atoms : List Atom) (rows : Choice) (known : Known) → BoundTests (known .bindings) atoms tests
     → Answers (λ k. k .bindings) (λ k. k .gone ≡ goneAfter kinds atoms rows (known .gone))

@@ -12,14 +12,15 @@ use lib.ListN.{getElem?}
 use Rattle.meaning.specs.Basics.{All}
 use Rattle.meaning.specs.Facts.{Kind, Fact, Board}
 use Rattle.meaning.specs.Rules.{Rule, Book}
-use Rattle.meaning.specs.Fit.{Choice, noMarks, IsChoice, Fits, Known, nothingKnown, firstFit}
-use Rattle.meaning.specs.Firing.{Work, bodyWork, ruleWork, unusedRows, ofClass, boardAfter, hasRoom}
+use Rattle.meaning.specs.Fit.{Choice, Marks, noMarks, IsChoice, cardRows, Apart, Fits, Known, nothingKnown, firstFit}
+use Rattle.meaning.specs.Firing.{Work, headFacts, bodyWork, ruleWork, unusedRows, ofClass, boardAfter, hasRoom}
 use Rattle.meaning.specs.Firing.{Firing, quiet, full, fired, settle, fireRule, fireFrom, fire}
 use Rattle.meaning.specs.Meld.{count, Apply, Step, rule-app, ruleForm}
 use Rattle.meaning.specs.WellFormed.{GoodRule, GoodBook}
 use Rattle.firings.specs.Basics.{cases, all-at, at-in}
 use Rattle.firings.specs.Choosing.{FirstChoice, first-fit-is-first, none-first-exactly-if-none-fits}
-use Rattle.firings.specs.Sweeping.{SweepsDone, sweeps-done}
+use Rattle.firings.specs.CardRows.{Marked, marked-append, fresh-append}
+use Rattle.firings.specs.Sweeps.{SweepsDone, rowsOfSweeps, factsOfSweeps, sweeps-fresh, sweeps-make, sweeps-done}
 use Rattle.firings.specs.Counting.{count-append, usedRows, unused-and-used}
 use Rattle.firings.specs.Allowed.{rule-applied}
 
@@ -155,6 +156,27 @@ pub record FiringIs (book : Book) (board : Board) (number : ℕ) (board′ : Boa
   pub room : hasRoom board′ ≡ true
   -- and Meld allows the step
   pub meld : MeldStep book board rule work board′
+
+module _ {book : Book} {board board′ : Board} {number : ℕ} (w : FiringIs book board number board′) where
+  -- the card rows that a firing uses: those of the body's choice, and those of the sweeps
+  abbrev pub rowsOfFiring : List ℕ
+  rowsOfFiring = cardRows (book .kinds) (w .rule .body) (w .first .choice) ++ rowsOfSweeps (w .swept)
+
+  -- "it uses up cards that fit the rule's body", and those of its sweeps: no card row twice, and exactly these.
+  pub firing-uses-each-row-once : Apart rowsOfFiring × Marked noMarks rowsOfFiring (w .work .used)
+  firing-uses-each-row-once =
+      let g = w .first .gives in
+      let s = sweeps-fresh (w .swept) in
+      let rows = cardRows (book .kinds) (w .rule .body) (w .first .choice) in
+      let more = rowsOfSweeps (w .swept) in
+      let body : Marked noMarks rows (w .known .gone) = λ n. ap (λ (m : Marks). m n) (g .gone) in (
+        fresh-append noMarks (w .known .gone) rows more (g .fits .apart, g .fits .unused) body (s .0) .0,
+        marked-append noMarks (w .known .gone) (w .work .used) rows more body (s .1),
+      )
+
+  -- "Made facts are listed: the rule's head atoms in order, then each taken choice's head atoms, sweep by sweep."
+  pub firing-makes-in-order : w .work .made ≡ headFacts (w .known .bindings) (w .rule .heads) ++ factsOfSweeps (w .swept)
+  firing-makes-in-order = sweeps-make (w .swept)
 
 -- the first rule with a fitting choice would overfill the board
 pub record FullIs (book : Book) (board : Board) : Type 0 where

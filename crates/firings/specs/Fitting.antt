@@ -1,46 +1,19 @@
 -- `fit`, the program, answers exactly where the choice fits in document 01's words (`Fits`), and the values that it finds are the only ones. The words
 -- speak of all rows at once and the program goes atom by atom: `fits-split` says that both mean the same.
 use mathlib.Core.Path.{_≡_, refl, sym, ap, _∙_}
-use mathlib.Core.Logic.{_↔_, ⊎-elim}
+use mathlib.Core.Logic.{_↔_}
 use Prim.Native.Nat.{ℕ}
-use mathlib.Core.Bool.{Bool, true, false, _||_, true≢false, or-true}
+use mathlib.Core.Bool.{true, _||_, or-true}
 use mathlib.Core.Option.{Option, none, some, Option·none-ne-some}
-use mathlib.Core.List.{List, [], _∷_, List·Memᴰ·head, List·Memᴰ·tail, List·Memᴰ·not-nil, List·Memᴰ·cases-cons, Memᴰ·cast}
-use lib.Dec.{eqb}
-use borrow.Author.Tests.{eq-eqb, ne-eqb, not-true}
-use Rattle.meaning.specs.Basics.{if_then_else_}
+use mathlib.Core.List.{List, [], _∷_, List·Memᴰ·not-nil}
 use Rattle.meaning.specs.Facts.{Kind, Fact, isCard}
 use Rattle.meaning.specs.Rules.{Atom, Test, Values, occursIn}
-use Rattle.meaning.specs.Fit.{Choice, Marks, mark, valuesOf, Known, free, takeRow, fit}
-use Rattle.meaning.specs.Fit.{HasKinds, cardRows, Apart, Unused, AtomsEqual, TestsHold, Under, Fits}
-use Rattle.firings.specs.Basics.{neither}
-use Rattle.firings.specs.Answers.{isBound, under-own, under-bound, answered, answer-is, BoundTests, FitsBy, goneAfter, fit-answers}
+use Rattle.meaning.specs.Fit.{Choice, Marks, valuesOf, Known, takeRow, fit}
+use Rattle.meaning.specs.Fit.{HasKinds, cardRows, AtomsEqual, TestsHold, Under, Fits}
+use Rattle.firings.specs.CardRows.{Fresh, fresh-row, goneAfter}
+use Rattle.firings.specs.Answers.{isBound, under-own, under-bound, answered, answer-is, BoundTests, FitsBy, fit-answers}
 
 -- ---- all at once, and row by row
-
--- "no two card atoms have one row", and none of the rows is gone
-abbrev pub Fresh : Marks → List ℕ → Type 0
-Fresh gone rows = Apart rows × Unused gone rows
-
-fresh-cons : (gone : Marks) (n : ℕ) (rows : List ℕ) → ((gone n ≡ false) × Fresh (mark n gone) rows) ↔ Fresh gone (n ∷ rows)
-fresh-cons gone n rows = (
-  (λ h. (
-    ((λ m. true≢false (sym (eq-eqb n n refl) ∙ neither (gone n) (eqb n n) (h .1 .1 n m) .1)), h .1 .0),
-    λ i m. ⊎-elim (λ e. ap gone e ∙ h .0) (λ k. neither (gone i) (eqb i n) (h .1 .1 i k) .0) (List·Memᴰ·cases-cons m),
-  )),
-  λ h. (
-    h .1 n (List·Memᴰ·head refl),
-    (h .0 .1, λ i m. rw (h .1 i (List·Memᴰ·tail m)) (ne-eqb i n (λ e. h .0 .0 (Memᴰ·cast (sym e) m)))),
-  ),
-)
-
--- a card row must be free and is then taken; a notice row is neither
-fresh-row : (card : Bool) (gone : Marks) (n : ℕ) (rows : List ℕ)
-    → ((free card gone n ≡ true) × Fresh (takeRow card n gone) rows) ↔ Fresh gone (if card then n ∷ rows else rows)
-fresh-row true gone n rows =
-    let w = fresh-cons gone n rows in
-    ((λ h. w .0 (not-true (gone n) (h .0), h .1)), λ h. let k = w .1 h in (rw (k .0), k .1))
-fresh-row false gone n rows = ((λ h. h .1), λ h. (refl, h))
 
 fits-split : (kinds : List Kind) (tests : List Test) (values : Values) (atoms : List Atom) (rows : Choice) (gone : Marks)
     → FitsBy kinds tests atoms rows gone values ↔ (Fresh gone (cardRows kinds atoms rows) × AtomsEqual values atoms rows × TestsHold values tests)

@@ -20,7 +20,8 @@ use Rattle.firings.specs.Basics.{cases, both, either, all-append, all-at
 use Rattle.firings.specs.Answers.{isBound, unbound-zero, under-bound}
 use Rattle.firings.specs.Fitting.{FitGives}
 use Rattle.firings.specs.Choosing.{choices-exactly}
-use Rattle.firings.specs.Sweeping.{Taken, Sweeping, over, passes, takes, SweepsDone, no-sweep, sweep-then}
+use Rattle.firings.specs.Sweeping.{Taken, Sweeping, over, passes, takes}
+use Rattle.firings.specs.Sweeps.{SweepsDone, no-sweep, sweep-then}
 use Rattle.firings.specs.Firings.{firing-is}
 use Rattle.firings.specs.Runs.{Fires, no-more, fires-then, run-is}
 

@@ -1,8 +1,10 @@
 pub mod Basics
+pub mod CardRows
 pub mod Answers
 pub mod Fitting
 pub mod Choosing
 pub mod Sweeping
+pub mod Sweeps
 pub mod Counting
 pub mod Variables
 pub mod Allowed
