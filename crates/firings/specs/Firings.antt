@@ -186,7 +186,7 @@ pub record FullIs (book : Book) (board : Board) : Type 0 where
   pub noRoom : hasRoom (boardAfter (book .kinds) board work) ≡ false
 
 module _ (book : Book) (good : GoodBook book) (board : Board) where
-  swept-by : (w : FirstRule (book .kinds) board (book .rules))
+  pub swept-by : (w : FirstRule (book .kinds) board (book .rules))
       → SweepsDone (book .kinds) board (w .known .bindings) (bodyWork (w .rule) (w .known)) (w .rule .sweeps) (workBy (book .kinds) board w)
   swept-by w =
       let rule = w .rule in

@@ -12,3 +12,4 @@ pub mod Firings
 pub mod Quiet
 pub mod Runs
 pub mod Keeping
+pub mod Exactly
