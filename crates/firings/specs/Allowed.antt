@@ -12,7 +12,7 @@ use Rattle.meaning.specs.Basics.{if_then_else_, mem, In}
 use Rattle.meaning.specs.Facts.{Kind, Fact, Board, isCard}
 use Rattle.meaning.specs.Rules.{Term, constant, variable, Atom, Test, Sweep, Rule, Values, valueOf}
 use Rattle.meaning.specs.Fit.{Choice, Marks, Bindings, valuesOf, IsChoice, AtomsEqual, TestsHold, Known, nothingKnown, takeRow}
-use Rattle.meaning.specs.Firing.{Work, headFact, headFacts, taken, bodyWork, unusedRows, ofClass}
+use Rattle.meaning.specs.Firing.{Work, headFact, headFacts, taken, unusedRows, ofClass}
 use Rattle.meaning.specs.Translation.{boundBy}
 use Rattle.meaning.specs.Meld.{Sum, int, vint, _⇓_, eval-int, eval-cmp-int, _⇓⇓_, all-nil, all-cons, Equal, equal-none, equal-int, Form, 𝟏, fact}
 use Rattle.meaning.specs.Meld.{Match, match-one, match-split, match-end-constraint, match-end-linear, match-end-persistent}
@@ -25,8 +25,8 @@ use Rattle.firings.specs.CardRows.{goneAfter, gone-nil, gone-cons}
 use Rattle.firings.specs.Answers.{isBound, unbound-zero, FitsBy}
 use Rattle.firings.specs.Fitting.{FitGives, by-fits}
 use Rattle.firings.specs.Choosing.{choices-exactly}
-use Rattle.firings.specs.Sweeping.{Taken, Sweeping, over, passes, takes}
-use Rattle.firings.specs.Sweeps.{SweepsDone, no-sweep, sweep-then}
+use Rattle.firings.specs.Sweeping.{Taken, GivesNow, Sweeping, over, passes, takes}
+use Rattle.firings.specs.Sweeps.{SweepsDone, no-sweep, sweep-then, RuleDone}
 use Rattle.firings.specs.Variables.{occurs-bound, own-only, forAll-at}
 
 -- ---- terms
@@ -168,8 +168,7 @@ module _ (kinds : List Kind) (board : Board) (last : Work) where
 
     -- a taken choice is one more turn of the comprehension
     leads-taken : (sweep : Sweep) (Ω : List Form) (work : Work) (c : Choice) (k : Known) → IsChoice kinds board (sweep .body) c
-        → FitGives kinds (sweep .body) (sweep .tests) c (record { bindings = bindings; gone = work .used }) k
-        → Leads (taken (sweep .heads) work (some k)) (form sweep ∷ Ω) → Leads work (form sweep ∷ Ω)
+        → GivesNow kinds sweep bindings work c k → Leads (taken (sweep .heads) work (some k)) (form sweep ∷ Ω) → Leads work (form sweep ∷ Ω)
     leads-taken sweep Ω work c k i g d =
         let cards = cardFacts kinds (sweep .body) c in
         let heads = leads-heads (k .bindings) 𝟏 (form sweep ∷ Ω) (k .gone) (sweep .heads) (work .made) (d .0, derive-1 (d .1), d .2) in
@@ -202,7 +201,7 @@ module _ (kinds : List Kind) (board : Board) (last : Work) where
 -- "Each firing of a book's run is one that Meld 2.0 Semantics allows": a rule whose body's choice fits, with its sweeps done, is applied, and the
 -- notices made, the cards made and the cards used are exactly those of the work.
 pub rule-applied : (kinds : List Kind) (board : Board) (rule : Rule) (c : Choice) (k : Known) (last : Work) → IsChoice kinds board (rule .body) c
-    → FitGives kinds (rule .body) (rule .tests) c nothingKnown k → SweepsDone kinds board (k .bindings) (bodyWork rule k) (rule .sweeps) last
+    → FitGives kinds (rule .body) (rule .tests) c nothingKnown k → RuleDone kinds board rule k last
     → Apply (board .notices) (board .cards) (ruleForm kinds rule)
     (ofClass kinds false (last .made)) (ofClass kinds true (last .made)) (usedRows 0 (last .used) (board .cards))
 unfolding ruleForm ofClass

@@ -1,13 +1,14 @@
 -- Laws of conditions, membership and lists that the other files share; each by induction on the list, or by the two cases of a condition.
 use mathlib.Core.Path.{_≡_, refl, sym, ap, subst}
 use mathlib.Core.Logic.{_⊎_, inl, inr}
-use Prim.Native.Nat.{ℕ, zero, suc}
+use Prim.Native.Nat.{ℕ, zero, suc, _<_}
+use native.Mathlib.Omega.{arith}
 use mathlib.Core.Bool.{Bool, true, false, _&&_, _||_, false≢true, true≢false, or-assoc}
 use mathlib.Core.Option.{some, Option·some-injective, Option·none-ne-some}
 use mathlib.Core.List.{List, [], _∷_, _++_, List·Memᴰ·head, List·Memᴰ·tail}
 use lib.ListN.{getElem?}
-use lib.Dec.{eqb}
-use borrow.Author.Tests.{eq-eqb}
+use lib.Dec.{eqb, ltb}
+use borrow.Author.Tests.{eq-eqb, ltb-true, ltb-false}
 use Rattle.meaning.specs.Basics.{mem, In, All}
 use Rattle.meaning.specs.Facts.{Fact}
 
@@ -28,6 +29,13 @@ either false y h = inr h
 pub neither : (x y : Bool) → (x || y) ≡ false → (x ≡ false) × (y ≡ false)
 neither true y h = absurd (true≢false h)
 neither false y h = (refl, h)
+
+-- of two numbers one is less, or they are equal
+pub order : {X : Type 0} (m n : ℕ) → (m < n → X) → (m ≡ n → X) → (n < m → X) → X
+order m n f g h =
+    cases (ltb m n) (λ p. f (ltb-true m n p)) λ p.
+    cases (ltb n m) (λ q. h (ltb-true n m q)) λ q.
+    g (omega (arith, ltb-false m n p, ltb-false n m q))
 
 -- ---- membership of numbers
 

@@ -4,24 +4,21 @@ use mathlib.Core.Path.{_≡_, refl, sym, ap, ap₂, _∙_, subst, fun-ext}
 use mathlib.Core.Logic.{_⊎_, inl, inr, _↔_, ⊎-elim}
 use Prim.Native.Nat.{ℕ, _<_}
 use native.Mathlib.Nat.{zero-add}
-use native.Mathlib.Omega.{arith}
 use mathlib.Core.Bool.{true}
 use mathlib.Core.Option.{some, Option·some-injective}
 use mathlib.Core.List.{List, [], _∷_, _++_, map}
 use lib.ListN.{getElem?}
-use lib.Dec.{ltb}
-use borrow.Author.Tests.{ltb-true, ltb-false}
 use Rattle.meaning.specs.Facts.{Kind, Board, isCard, rowsOf}
 use Rattle.meaning.specs.Rules.{Atom, Test, Sweep, Rule, Book}
 use Rattle.meaning.specs.Fit.{Row, Choice, Bindings, valuesOf, Known, nothingKnown, IsChoice, Before, Under, fit}
-use Rattle.meaning.specs.Firing.{Work, headFact, taken, bodyWork, boardAfter, hasRoom, full, fired, settle, fire}
+use Rattle.meaning.specs.Firing.{Work, headFact, taken, boardAfter, hasRoom, full, fired, settle, fire}
 use Rattle.meaning.specs.WellFormed.{GoodBook}
-use Rattle.firings.specs.Basics.{cases}
+use Rattle.firings.specs.Basics.{cases, order}
 use Rattle.firings.specs.Answers.{isBound, unbound-zero, under-bound}
 use Rattle.firings.specs.Fitting.{FitGives}
 use Rattle.firings.specs.Choosing.{FirstChoice}
-use Rattle.firings.specs.Sweeping.{Taken, Sweeping, over, passes, takes}
-use Rattle.firings.specs.Sweeps.{SweepsDone, no-sweep, sweep-then}
+use Rattle.firings.specs.Sweeping.{Taken, GivesNow, Sweeping, over, passes, takes}
+use Rattle.firings.specs.Sweeps.{SweepsDone, no-sweep, sweep-then, RuleDone}
 use Rattle.firings.specs.Firings.{FirstRule, first-rule-fits, look, swept-by, FiringIs, firing-is, FullIs, full-is}
 
 -- ---- one first choice
@@ -35,14 +32,14 @@ one-before kinds board [] (r ∷ c) d i j = absurd i
 one-before kinds board (a ∷ atoms) [] d i j = absurd i
 one-before kinds board (a ∷ atoms) (r ∷ c) [] i j = absurd j
 one-before kinds board (a ∷ atoms) (r ∷ c) (s ∷ d) i j =
-    cases (ltb (r .at) (s .at)) (λ p. inl (inl (ltb-true (r .at) (s .at) p))) λ p.
-    cases (ltb (s .at) (r .at)) (λ q. inr (inr (inl (ltb-true (s .at) (r .at) q)))) λ q.
-    same (omega (arith, ltb-false (r .at) (s .at) p, ltb-false (s .at) (r .at) q)) (one-before kinds board atoms c d (i .1) (j .1))
+    let rest = one-before kinds board atoms c d (i .1) (j .1) in
+    order (r .at) (s .at) (λ p. inl (inl p)) (λ e. same e rest) (λ p. inr (inr (inl p)))
   where
     same : r .at ≡ s .at → Before c d ⊎ ((c ≡ d) ⊎ Before d c) → Before (r ∷ c) (s ∷ d) ⊎ ((r ∷ c ≡ s ∷ d) ⊎ Before (s ∷ d) (r ∷ c))
     same e (inl b) = inl (inr (e, b))
     same e (inr (inl q)) =
-        let f : r .fact ≡ s .fact = Option·some-injective (r .fact) (s .fact) (sym (i .0) ∙ ap (getElem? (rowsOf board (isCard kinds (a .kind)))) e ∙ j .0) in
+        let row = sym (i .0) ∙ ap (getElem? (rowsOf board (isCard kinds (a .kind)))) e ∙ j .0 in
+        let f : r .fact ≡ s .fact = Option·some-injective (r .fact) (s .fact) row in
         inr (inl (ap₂ (λ (x : Row) (l : Choice). x ∷ l) (λ n. record { at = e n; fact = f n }) q))
     same e (inr (inr b)) = inr (inr (inr (sym e, b)))
 
@@ -58,7 +55,8 @@ first-choice-one kinds board atoms tests known {k} {k′} v w =
 
 -- two answers to one choice have the same values and leave the same rows
 gives-one : (kinds : List Kind) (atoms : List Atom) (tests : List Test) (rows : Choice) (known k k′ : Known)
-    → FitGives kinds atoms tests rows known k → FitGives kinds atoms tests rows known k′ → (valuesOf (k .bindings) ≡ valuesOf (k′ .bindings)) × (k .gone ≡ k′ .gone)
+    → FitGives kinds atoms tests rows known k → FitGives kinds atoms tests rows known k′
+    → (valuesOf (k .bindings) ≡ valuesOf (k′ .bindings)) × (k .gone ≡ k′ .gone)
 gives-one kinds atoms tests rows known k k′ g g′ = (fun-ext same, g .gone ∙ sym (g′ .gone))
   where
     under : Under (k .bindings) (valuesOf (k′ .bindings))
@@ -78,11 +76,10 @@ gives-one kinds atoms tests rows known k k′ g g′ = (fun-ext same, g .gone �
         (λ y. unbound-zero (k .bindings) x y ∙ sym (unbound-zero (k′ .bindings) x (g′ .binds x ∙ sym (g .binds x) ∙ y)))
 
 module _ (kinds : List Kind) (sweep : Sweep) (bindings : Bindings) where
-  taken-one : (work : Work) (c : Choice) (k k′ : Known) → FitGives kinds (sweep .body) (sweep .tests) c (record { bindings = bindings; gone = work .used }) k
-      → FitGives kinds (sweep .body) (sweep .tests) c (record { bindings = bindings; gone = work .used }) k′
+  taken-one : (work : Work) (c : Choice) (k k′ : Known) → GivesNow kinds sweep bindings work c k → GivesNow kinds sweep bindings work c k′
       → taken (sweep .heads) work (some k′) ≡ taken (sweep .heads) work (some k)
   taken-one work c k k′ g g′ =
-      let w = gives-one kinds (sweep .body) (sweep .tests) c (record { bindings = bindings; gone = work .used }) k′ k g′ g in
+      let w = gives-one kinds (sweep .body) (sweep .tests) c _ k′ k g′ g in
       λ i. record { used = w .1 i; made = work .made ++ map (headFact (w .0 i)) (sweep .heads) }
 
   sweeping-one : {work last last′ : Work} {cs : List Choice} {ts ts′ : List Taken}
@@ -98,7 +95,8 @@ sweeps-one : {kinds : List Kind} {board : Board} {bindings : Bindings} {work las
     → SweepsDone kinds board bindings work sweeps last → SweepsDone kinds board bindings work sweeps last′ → last ≡ last′
 sweeps-one no-sweep no-sweep = refl
 sweeps-one {kinds} {board} {bindings} {work} {last} {last′} (sweep-then {sweep = sweep} {sweeps = sweeps} d more) (sweep-then d′ more′) =
-    sweeps-one more (subst (λ (w : Work). SweepsDone kinds board bindings w sweeps last′) (sym (sweeping-one kinds sweep bindings (d .each) (d′ .each))) more′)
+    let e = sweeping-one kinds sweep bindings (d′ .each) (d .each) in
+    sweeps-one more (subst (λ (w : Work). SweepsDone kinds board bindings w sweeps last′) e more′)
 
 -- ---- one first rule
 
@@ -107,23 +105,19 @@ module _ (kinds : List Kind) (board : Board) (rules : List Rule) where
   not-earlier v w h = w .noneEarlier (v .place) (v .rule) h (v .listed) (v .first .choice) (v .first .isChoice) (v .first .gives .fits)
 
   place-one : (v w : FirstRule kinds board rules) → v .place ≡ w .place
-  place-one v w =
-      cases (ltb (v .place) (w .place)) (λ p. absurd (not-earlier v w (ltb-true (v .place) (w .place) p))) λ p.
-      cases (ltb (w .place) (v .place)) (λ q. absurd (not-earlier w v (ltb-true (w .place) (v .place) q))) λ q.
-      omega (arith, ltb-false (v .place) (w .place) p, ltb-false (w .place) (v .place) q)
+  place-one v w = order (v .place) (w .place) (λ p. absurd (not-earlier v w p)) (λ e. e) (λ p. absurd (not-earlier w v p))
 
   -- the same rule, and the same values and rows
   found-one : (v w : FirstRule kinds board rules) → _≡_ {A = Rule × Known} (v .rule, v .known) (w .rule, w .known)
   found-one v w =
       let e = Option·some-injective (v .rule) (w .rule) (sym (v .listed) ∙ ap (getElem? rules) (place-one v w) ∙ w .listed) in
       subst (λ (r : Rule). (k : Known) → FirstChoice kinds board (r .body) (r .tests) nothingKnown k → _≡_ {A = Rule × Known} (v .rule, v .known) (r, k)) e
-      (λ k f. ap (λ (x : Known). (v .rule, x)) (first-choice-one kinds board (v .rule .body) (v .rule .tests) nothingKnown (v .first) f)) (w .known) (w .first)
+      (λ k f. ap (λ (x : Known). (v .rule, x)) (first-choice-one kinds board (v .rule .body) (v .rule .tests) nothingKnown (v .first) f))
+      (w .known) (w .first)
 
   work-one : (v w : FirstRule kinds board rules) (work work′ : Work)
-      → SweepsDone kinds board (v .known .bindings) (bodyWork (v .rule) (v .known)) (v .rule .sweeps) work
-      → SweepsDone kinds board (w .known .bindings) (bodyWork (w .rule) (w .known)) (w .rule .sweeps) work′ → work ≡ work′
-  work-one v w work work′ s s′ =
-      sweeps-one s (subst (λ (x : Rule × Known). SweepsDone kinds board (x .1 .bindings) (bodyWork (x .0) (x .1)) (x .0 .sweeps) work′) (sym (found-one v w)) s′)
+      → RuleDone kinds board (v .rule) (v .known) work → RuleDone kinds board (w .rule) (w .known) work′ → work ≡ work′
+  work-one v w work work′ s s′ = sweeps-one s (subst (λ (x : Rule × Known). RuleDone kinds board (x .0) (x .1) work′) (found-one w v) s′)
 
 -- ---- the firing
 
@@ -132,8 +126,7 @@ module _ (book : Book) (good : GoodBook book) (board : Board) where
   first-of {number} v = record { place = number; rule = v .rule; listed = v .listed; noneEarlier = v .noneEarlier; known = v .known; first = v .first }
 
   -- what is settled of a first rule and its work
-  fire-settles : (v : FirstRule (book .kinds) board (book .rules)) (work : Work)
-      → SweepsDone (book .kinds) board (v .known .bindings) (bodyWork (v .rule) (v .known)) (v .rule .sweeps) work
+  fire-settles : (v : FirstRule (book .kinds) board (book .rules)) (work : Work) → RuleDone (book .kinds) board (v .rule) (v .known) work
       → fire book board ≡ settle (book .kinds) board (v .place) work
   unfolding fire
   fire-settles v work s =

@@ -20,7 +20,7 @@ use Rattle.meaning.specs.WellFormed.{GoodRule, GoodBook}
 use Rattle.firings.specs.Basics.{cases, all-at, at-in}
 use Rattle.firings.specs.Choosing.{FirstChoice, first-fit-is-first, none-first-exactly-if-none-fits}
 use Rattle.firings.specs.CardRows.{Marked, marked-append, fresh-append}
-use Rattle.firings.specs.Sweeps.{SweepsDone, rowsOfSweeps, factsOfSweeps, sweeps-fresh, sweeps-make, sweeps-done}
+use Rattle.firings.specs.Sweeps.{RuleDone, rowsOfSweeps, factsOfSweeps, sweeps-fresh, sweeps-make, sweeps-done}
 use Rattle.firings.specs.Counting.{count-append, usedRows, unused-and-used}
 use Rattle.firings.specs.Allowed.{rule-applied}
 
@@ -150,7 +150,7 @@ pub record FiringIs (book : Book) (board : Board) (number : ℕ) (board′ : Boa
   pub first : FirstChoice (book .kinds) board (rule .body) (rule .tests) nothingKnown known
   -- "Its sweeps then run in file order, under the body's values." "Made facts are listed: the rule's head atoms in order", then theirs
   pub work : Work
-  pub swept : SweepsDone (book .kinds) board (known .bindings) (bodyWork rule known) (rule .sweeps) work
+  pub swept : RuleDone (book .kinds) board rule known work
   -- the board after, and it has room
   pub after : board′ ≡ boardAfter (book .kinds) board work
   pub room : hasRoom board′ ≡ true
@@ -182,12 +182,11 @@ module _ {book : Book} {board board′ : Board} {number : ℕ} (w : FiringIs boo
 pub record FullIs (book : Book) (board : Board) : Type 0 where
   pub would : FirstRule (book .kinds) board (book .rules)
   pub work : Work
-  pub swept : SweepsDone (book .kinds) board (would .known .bindings) (bodyWork (would .rule) (would .known)) (would .rule .sweeps) work
+  pub swept : RuleDone (book .kinds) board (would .rule) (would .known) work
   pub noRoom : hasRoom (boardAfter (book .kinds) board work) ≡ false
 
 module _ (book : Book) (good : GoodBook book) (board : Board) where
-  pub swept-by : (w : FirstRule (book .kinds) board (book .rules))
-      → SweepsDone (book .kinds) board (w .known .bindings) (bodyWork (w .rule) (w .known)) (w .rule .sweeps) (workBy (book .kinds) board w)
+  pub swept-by : (w : FirstRule (book .kinds) board (book .rules)) → RuleDone (book .kinds) board (w .rule) (w .known) (workBy (book .kinds) board w)
   swept-by w =
       let rule = w .rule in
       let r = all-at (GoodRule (book .kinds)) (book .rules) (w .place) (good .rules) (w .listed) in

@@ -14,14 +14,14 @@ use Rattle.meaning.specs.Basics.{In, All}
 use Rattle.meaning.specs.Facts.{Kind, Fact, Board, numberLimit, mostCards, mostNotices, isCard, rowsOf}
 use Rattle.meaning.specs.Rules.{Term, constant, variable, Atom, Test, Sweep, Rule, Book, Values, valueOf, occursInTerms, occursIn}
 use Rattle.meaning.specs.Fit.{Choice, Marks, Bindings, valuesOf, IsChoice, AtomsEqual, Known, nothingKnown}
-use Rattle.meaning.specs.Firing.{Work, bodyWork, headFacts, unusedRows, ofClass, boardAfter, hasRoom, fired, fire, run}
+use Rattle.meaning.specs.Firing.{Work, headFacts, unusedRows, ofClass, boardAfter, hasRoom, fired, fire, run}
 use Rattle.meaning.specs.WellFormed.{GoodTerm, GoodAtom, GoodSweep, GoodRule, GoodBook, GoodFact, GoodBoard}
 use Rattle.firings.specs.Basics.{cases, both, either, all-append, all-at}
 use Rattle.firings.specs.Answers.{isBound, unbound-zero, under-bound}
 use Rattle.firings.specs.Fitting.{FitGives}
 use Rattle.firings.specs.Choosing.{choices-exactly}
 use Rattle.firings.specs.Sweeping.{Taken, Sweeping, over, passes, takes}
-use Rattle.firings.specs.Sweeps.{SweepsDone, no-sweep, sweep-then}
+use Rattle.firings.specs.Sweeps.{SweepsDone, no-sweep, sweep-then, RuleDone}
 use Rattle.firings.specs.Firings.{firing-is}
 use Rattle.firings.specs.Runs.{Fires, no-more, fires-then, run-is}
 
@@ -105,8 +105,7 @@ module _ (kinds : List Kind) (board : Board) (good : GoodBoard kinds board) wher
         sweeps-made more (s .1) (sweep-made sweep (s .0) (done .each) (λ c. choices-exactly kinds board (sweep .body) c .0) h)
 
   rule-made : (rule : Rule) → GoodRule kinds rule → (c : Choice) (k : Known) (last : Work) → IsChoice kinds board (rule .body) c
-      → FitGives kinds (rule .body) (rule .tests) c nothingKnown k → SweepsDone kinds board (k .bindings) (bodyWork rule k) (rule .sweeps) last
-      → All (GoodMade kinds) (last .made)
+      → FitGives kinds (rule .body) (rule .tests) c nothingKnown k → RuleDone kinds board rule k last → All (GoodMade kinds) (last .made)
   rule-made rule r c k last i g done =
       let small = found-small kinds board good (rule .body) (rule .tests) c nothingKnown k i g (λ x. omega arith) in
       sweeps-made (rule .body) (k .bindings) small done (r .sweeps) (heads-good kinds _ (k .bindings) small (rule .heads) (r .group .headAtoms))

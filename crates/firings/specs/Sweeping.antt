@@ -49,6 +49,10 @@ module _ (kinds : List Kind) (sweep : Sweep) (bindings : Bindings) where
   abbrev pub FitsNow : Marks → Choice → Type 0
   FitsNow used c = Fits kinds (sweep .body) (sweep .tests) c bindings used
 
+  -- what is found for a choice that fits so
+  abbrev pub GivesNow : Work → Choice → Known → Type 0
+  GivesNow work c k = FitGives kinds (sweep .body) (sweep .tests) c (now work) k
+
   -- From the work through the choices, with those taken in order, to the work at last: a choice that does not fit is passed over, and one that fits
   -- is taken, with the values that make it fit.
   pub data Sweeping : Work → List Choice → List Taken → Work → Type 0 where
@@ -57,7 +61,7 @@ module _ (kinds : List Kind) (sweep : Sweep) (bindings : Bindings) where
         → (FitsNow (work .used) c → ⊥) → Sweeping work cs ts last
         → Sweeping work (c ∷ cs) ts last
     takes : {work last : Work} {c : Choice} {k : Known} {cs : List Choice} {ts : List Taken}
-        → FitGives kinds (sweep .body) (sweep .tests) c (now work) k → Sweeping (taken (sweep .heads) work (some k)) cs ts last
+        → GivesNow work c k → Sweeping (taken (sweep .heads) work (some k)) cs ts last
         → Sweeping work (c ∷ cs) (record { choice = c; bindings = k .bindings } ∷ ts) last
 
   abbrev rows : Choice → List ℕ

@@ -6,9 +6,9 @@ use mathlib.Core.Bool.{Bool, _||_, or-false}
 use mathlib.Core.List.{List, [], _∷_, _++_, append-assoc, append-nil, List·Memᴰ·not-nil}
 use Rattle.meaning.specs.Basics.{fold, In, All}
 use Rattle.meaning.specs.Facts.{Kind, Fact, Board}
-use Rattle.meaning.specs.Rules.{Atom, Sweep, occursIn}
-use Rattle.meaning.specs.Fit.{Choice, Bindings, IsChoice, Apart, Unused, Fits, choices}
-use Rattle.meaning.specs.Firing.{Work, runSweep, runSweeps}
+use Rattle.meaning.specs.Rules.{Atom, Sweep, Rule, occursIn}
+use Rattle.meaning.specs.Fit.{Choice, Bindings, Known, IsChoice, Apart, Unused, Fits, choices}
+use Rattle.meaning.specs.Firing.{Work, runSweep, runSweeps, bodyWork}
 use Rattle.meaning.specs.WellFormed.{HasCard, GoodSweep}
 use Rattle.firings.specs.CardRows.{Fresh, Marked, marked-append, fresh-append, AllNotices}
 use Rattle.firings.specs.Answers.{isBound, BoundTests, good-tests}
@@ -43,6 +43,10 @@ pub data SweepsDone (kinds : List Kind) (board : Board) (bindings : Bindings) : 
   sweep-then : {work next last : Work} {sweep : Sweep} {sweeps : List Sweep}
       → SweepDone kinds board sweep bindings work next → SweepsDone kinds board bindings next sweeps last
       → SweepsDone kinds board bindings work (sweep ∷ sweeps) last
+
+-- the sweeps of a rule, after its body: under the body's values, its card rows used, its head atoms' facts made
+abbrev pub RuleDone : List Kind → Board → Rule → Known → Work → Type 0
+RuleDone kinds board rule known last = SweepsDone kinds board (known .bindings) (bodyWork rule known) (rule .sweeps) last
 
 module _ {kinds : List Kind} {board : Board} {bindings : Bindings} where
   -- the card rows that the sweeps used, and the facts that they made, "sweep by sweep"
