@@ -65,7 +65,7 @@ module _ (kinds : List Kind) (board : Board) (good : GoodBoard kinds board) wher
 -- ---- made facts are of declared kinds, with values and constants for numbers
 
 -- a good fact of its own class
-abbrev GoodMade : List Kind → Fact → Type 0
+abbrev pub GoodMade : List Kind → Fact → Type 0
 GoodMade kinds f = GoodFact kinds (isCard kinds (f .kind)) f
 
 module _ (kinds : List Kind) (bound : ℕ → Bool) (bindings : Bindings) (small : SmallValues bindings) where
@@ -119,7 +119,7 @@ unused-good P n used (f ∷ facts) h =
     let r = unused-good P (suc n) used facts (h .1) in
     cases (used n) (λ y. rw y r) (λ y. rw y (h .0, r))
 
-class-good : (kinds : List Kind) (card : Bool) (facts : List Fact) → All (GoodMade kinds) facts → All (GoodFact kinds card) (ofClass kinds card facts)
+pub class-good : (kinds : List Kind) (card : Bool) (facts : List Fact) → All (GoodMade kinds) facts → All (GoodFact kinds card) (ofClass kinds card facts)
 unfolding ofClass
 class-good kinds card [] h = tt
 class-good kinds true (f ∷ facts) h =
@@ -129,7 +129,7 @@ class-good kinds false (f ∷ facts) h =
     let r = class-good kinds false facts (h .1) in
     cases (isCard kinds (f .kind)) (λ y. rw y r) (λ y. rw y (rw y at (h .0), r))
 
-after-good : (kinds : List Kind) (board : Board) (work : Work) → GoodBoard kinds board → All (GoodMade kinds) (work .made)
+pub after-good : (kinds : List Kind) (board : Board) (work : Work) → GoodBoard kinds board → All (GoodMade kinds) (work .made)
     → hasRoom (boardAfter kinds board work) ≡ true → GoodBoard kinds (boardAfter kinds board work)
 after-good kinds board work good made room =
     let after = boardAfter kinds board work in

@@ -1,2 +1,3 @@
 pub mod Places
+pub mod StripBoards
 pub mod DemandOneKept
