@@ -14,7 +14,7 @@ use Rattle.meaning.specs.Facts.{Kind, Fact, Board, numberLimit, isCard, arityOf
 use Rattle.meaning.specs.Rules.{Term, constant, variable, Values, valueOf, holds}
 use Rattle.meaning.specs.Fit.{mayStand}
 use Rattle.meaning.specs.Firing.{Work, boardAfter, hasRoom, settle, Firing, quiet, full, fired, Attempt, done, spent, stuck, Ran, ended, goOn, repeat, noRule}
-use Rattle.meaning.specs.Words.{Word, KIND, OPEN, SEEK, BIND, SAME, LIT, TEST, KEEP, PUT, ARG, JUMP, FIRE, QUIET, Cursor, opened, on, past, State, state, Stepped, going, ends, stripKinds, rowUnder, argumentUnder, madeHasRoom, setNumber, onLast, orStuck, seekFrom, goneFor, sought, nextIf, execute, executeAt, step, start, attemptFrom, attempt, runStrip}
+use Rattle.meaning.specs.Words.{Word, KIND, OPEN, SEEK, BIND, SAME, LIT, TEST, KEEP, PUT, ARG, JUMP, FIRE, QUIET, Cursor, opened, on, past, State, state, Stepped, going, ends, stripKinds, rowUnder, argumentUnder, madeHasRoom, setNumber, onLast, orStuck, seekFrom, goneFor, sought, nextIf, execute, executeAt, step, start, goOnFrom, attemptFrom, attempt, runStrip}
 use Rattle.meaning.specs.WellFormed.{GoodTerm, anyVariable, GoodWord, GoodStrip, GoodFact, GoodBoard}
 use Rattle.meaning.specs.Translation.{kindWord}
 use Rattle.encoding.specs.Steps.{strip-kinds}
@@ -124,7 +124,7 @@ module _ (kinds : List Kind) (board : Board) (good : GoodBoard kinds board) wher
   word-keeps : (w : Word) (s : State) (size : ℕ) → GoodWord (length kinds) size w ⊎ ((kind : Kind) × (w ≡ kindWord kind)) → Sound s → Keeps (execute kinds board w s)
   word-keeps (KIND card arity) s size g h = keeps-going (record { registers = h .registers; made = h .made })
   word-keeps (OPEN c) s size g h = keeps-going (record { registers = h .registers; made = h .made })
-  word-keeps (SEEK c k target) s size g h = sought-keeps c k target s _ h
+  word-keeps (SEEK c k target) s size g h = sought-keeps c k target s (seekFrom (λ row f. mayStand kinds k (goneFor kinds board c s) row f) (rowsOf board (isCard kinds k)) (s .cursors c)) h
   word-keeps (BIND c i x) s size g h =
       keeps-stuck (argumentUnder board (s .cursors c) i) _
       (λ n e. keeps-going (record { registers = change-small (s .registers) x n (h .registers) (argument-small (s .cursors c) i n e); made = h .made }))
@@ -153,3 +153,75 @@ module _ (kinds : List Kind) (board : Board) (good : GoodBoard kinds board) wher
   word-keeps (JUMP target) s size g h = keeps-going (record { registers = h .registers; made = h .made })
   word-keeps (FIRE r) s size g h = settle-keeps r (record { used = s .used; made = s .made }) (h .made)
   word-keeps QUIET s size g h = keeps-end tt
+
+-- ---- an attempt
+
+-- each word of a good strip is good, or one of its KINDs
+abbrev Fine : List Kind → ℕ → Word → Type 0
+Fine kinds size w = GoodWord (length kinds) size w ⊎ ((kind : Kind) × (w ≡ kindWord kind))
+
+fine-others : (kinds : List Kind) (size : ℕ) (words : List Word) → All (GoodWord (length kinds) size) words → All (Fine kinds size) words
+fine-others kinds size [] g = tt
+fine-others kinds size (w ∷ words) g = (inl (g .0), fine-others kinds size words (g .1))
+
+fine-words : (kinds : List Kind) (size : ℕ) (first : List Kind) (others : List Word) → All (GoodWord (length kinds) size) others
+    → All (Fine kinds size) (map kindWord first ++ others)
+fine-words kinds size [] others g = fine-others kinds size others g
+fine-words kinds size (kind ∷ first) others g = (inr (kind, refl), fine-words kinds size first others g)
+
+strip-fine : (words : List Word) → GoodStrip words → All (Fine (stripKinds words) (length words)) words
+strip-fine words g =
+    subst (λ (ks : List Kind). All (Fine ks (length words)) words) (sym (strip-kinds words g))
+    (subst (All (Fine (g .kinds) (length words))) (sym (g .split)) (fine-words (g .kinds) (length words) (g .kinds) (g .others) (g .goodOthers)))
+
+module _ (words : List Word) (strip : GoodStrip words) (board : Board) (good : GoodBoard (stripKinds words) board) where
+  abbrev kinds : List Kind
+  kinds = stripKinds words
+
+  step-keeps : (s : State) → Sound kinds board good s → Keeps kinds board good (step words kinds board s)
+  unfolding step
+  step-keeps s h = by (getElem? words (s .at)) refl
+    where
+      by : (o : Option Word) → getElem? words (s .at) ≡ o → Keeps kinds board good (executeAt kinds board o s)
+      by none e = keeps-end tt
+      by (some w) e = word-keeps kinds board good w s (length words) (all-at (Fine kinds (length words)) words (s .at) (strip-fine words strip) e) h
+
+  from-keeps : (allowance : ℕ) (s : State) → Sound kinds board good s → Leaves kinds board good (attemptFrom words kinds board allowance s)
+  unfolding attemptFrom
+  from-keeps zero s h = tt
+  from-keeps (suc allowance) s h = by (step words kinds board s) (step-keeps s h) (λ s′ k. from-keeps allowance s′ k)
+    where
+      by : (r : Stepped) → Keeps kinds board good r → ((s′ : State) → Sound kinds board good s′ → Leaves kinds board good (attemptFrom words kinds board allowance s′))
+          → Leaves kinds board good (goOnFrom r (λ s′. attemptFrom words kinds board allowance s′))
+      by (going s′) (keeps-going k) rec = rec s′ k
+      by (ends a) (keeps-end k) rec = k
+
+  attempt-keeps : (allowance : ℕ) → Leaves kinds board good (attempt words allowance board)
+  unfolding attempt start
+  attempt-keeps allowance = from-keeps allowance (start words) (record { registers = λ x. omega arith; made = tt })
+
+-- ---- the run
+
+module _ (words : List Word) (strip : GoodStrip words) (allowance : ℕ) where
+  abbrev More : ℕ → Board → ℕ → ℕ → Type 0
+  More left rows firings rule = GoodBoard (stripKinds words) (repeat (attempt words allowance) left rows firings rule .board)
+
+  repeat-keeps : (left : ℕ) (rows : Board) → GoodBoard (stripKinds words) rows → (firings rule : ℕ) → More left rows firings rule
+  unfolding repeat
+  repeat-keeps zero rows g firings rule = g
+  repeat-keeps (suc left) rows g firings rule =
+      by (attempt words allowance rows) (attempt-keeps words strip rows g allowance) (λ r b k. repeat-keeps left b k (suc firings) r)
+    where
+      by : (a : Attempt) → Leaves (stripKinds words) rows g a → ((r : ℕ) (b : Board) → GoodBoard (stripKinds words) b → More left b (suc firings) r)
+          → GoodBoard (stripKinds words) (goOn a rows firings rule (λ r b. repeat (attempt words allowance) left b (suc firings) r) .board)
+      by (done quiet) k rec = g
+      by (done full) k rec = g
+      by (done (fired r b)) k rec = rec r b k
+      by spent k rec = g
+      by stuck k rec = g
+
+-- A run of an accepted strip on a good board leaves a good board.
+pub strip-run-keeps-good : (words : List Word) → GoodStrip words → (limit allowance : ℕ) (board : Board) → GoodBoard (stripKinds words) board
+    → GoodBoard (stripKinds words) (runStrip words limit allowance board .board)
+unfolding runStrip
+strip-run-keeps-good words strip limit allowance board good = repeat-keeps words strip allowance limit board good 0 noRule
