@@ -1,0 +1,64 @@
+-- Registers against the values found so far: they agree on every variable that has a value, and the strip's list of bound variables names
+-- exactly those. A register whose variable has no value may hold anything.
+use mathlib.Core.Path.{_≡_, refl, sym, ap, _∙_}
+use Prim.Native.Nat.{ℕ}
+use native.Mathlib.Omega.{arith}
+use mathlib.Core.Bool.{Bool, true, false, _||_, false≢true}
+use mathlib.Core.Option.{Option, none, some}
+use mathlib.Core.List.{List, [], _∷_, map}
+use lib.Dec.{eqb}
+use borrow.Author.Tests.{eqb-true}
+use Rattle.meaning.specs.Basics.{if_then_else_, change, mem, All}
+use Rattle.meaning.specs.Rules.{Term, constant, variable, Test, compare, Values, valueOf, holds}
+use Rattle.meaning.specs.Fit.{Binding, Bindings, lookup, orZero, valuesOf, Under}
+use Rattle.meaning.specs.WellFormed.{GoodTerm, GoodTest}
+use Rattle.agreement.specs.Leads.{cases}
+
+-- an answer's two cases, with the equation
+pub options {ℓ} : {X : Type ℓ} {A : Type 0} (o : Option A) → (o ≡ none → X) → ((a : A) → o ≡ some a → X) → X
+options none nothing something = nothing refl
+options (some a) nothing something = something a refl
+
+abbrev pub names : Bindings → List ℕ
+names bindings = map (λ b. b .name) bindings
+
+-- the registers are loaded with the values of the bound variables
+pub record Loaded (bindings : Bindings) (bound : List ℕ) (values : Values) : Type 0 where
+  pub named : names bindings ≡ bound
+  pub agreed : Under bindings values
+
+-- registers that agree with the later values agree with the earlier ones
+abbrev pub Extends : Bindings → Bindings → Type 0
+Extends bindings bindings′ = (values : Values) → Under bindings′ values → Under bindings values
+
+abbrev isSome : Option ℕ → Bool
+isSome none = false
+isSome (some v) = true
+
+-- bound by the strip's reckoning: has a value
+pub mem-names : (x : ℕ) (bindings : Bindings) → mem x (names bindings) ≡ isSome (lookup x bindings)
+mem-names x [] = refl
+mem-names x (b ∷ more) = cases (eqb x (b .name)) (λ y. rw y) (λ y. rw y (mem-names x more))
+
+-- a store to the register of a variable that has no value
+pub under-store : (bindings : Bindings) (values : Values) (x n : ℕ) → Under bindings values → Under (record { name = x; value = n } ∷ bindings) (change values x n)
+under-store bindings values x n u y v h = cases (eqb y x) (λ q. rw q (let r : some n ≡ some v = rw q at h in cc)) (λ q. rw q (u y v (rw q at h)))
+
+pub extends-new : (bindings : Bindings) (x n : ℕ) → lookup x bindings ≡ none → Extends bindings (record { name = x; value = n } ∷ bindings)
+extends-new bindings x n new values u y v h =
+    cases (eqb y x)
+    (λ q. let z : _≡_ {A = ℕ} 0 1 = cc (ap (λ (i : ℕ). lookup i bindings) (eqb-true y x q)) in absurd (omega arith))
+    (λ q. u y v (rw q h))
+
+-- a bound term has the same value in the registers
+pub value-agrees : {bindings : Bindings} {bound : List ℕ} {values : Values} → Loaded bindings bound values → (t : Term) → GoodTerm (λ x. mem x bound) t
+    → valueOf values t ≡ valueOf (valuesOf bindings) t
+value-agrees l (constant v) good = refl
+value-agrees {bindings} l (variable x) good =
+    options (lookup x bindings)
+    (λ q. absurd (false≢true (sym (rw q at (mem-names x bindings)) ∙ rw (l .named) (good .1))))
+    (λ v q. rw q (l .agreed x v q))
+
+pub test-agrees : {bindings : Bindings} {bound : List ℕ} {values : Values} → Loaded bindings bound values → (t : Test) → GoodTest (λ x. mem x bound) t
+    → holds values t ≡ holds (valuesOf bindings) t
+test-agrees l t good = rw (value-agrees l (t .left) (good .0), value-agrees l (t .right) (good .1))
