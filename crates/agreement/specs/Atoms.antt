@@ -12,14 +12,15 @@ use lib.Dec.{eqb}
 use borrow.Author.Tests.{eqb-true}
 use Rattle.meaning.specs.Basics.{if_then_else_, _>>=_, change, mem}
 use Rattle.meaning.specs.Facts.{Kind, Fact, Board, isCard, arityOf, rowsOf}
-use Rattle.meaning.specs.Rules.{Term, constant, variable, Atom, Values}
+use Rattle.meaning.specs.Rules.{Term, constant, variable, Atom, Test, Values}
 use Rattle.meaning.specs.Fit.{Row, Bindings, Known, Marks, lookup, agree, agreeVariable, agreeAll, mayStand, takeRow, fitRow, numbered, Under}
 use Rattle.meaning.specs.Firing.{Work, Firing}
 use Rattle.meaning.specs.WellFormed.{GoodFact, GoodBoard}
 use Rattle.meaning.specs.Words.{Word, cursorCount, OPEN, SEEK, BIND, SAME, LIT, Cursor, opened, on, past, Cursors, State, state, going, execute, argumentUnder, rowUnder, orStuck, nextRow, seekFrom, sought, held, goneFor}
-use Rattle.meaning.specs.Translation.{boundByTerm, boundByTerms, argumentWord, argumentWords}
+use Rattle.meaning.specs.Translation.{boundByTerm, boundByTerms, argumentWord, argumentWords, bodyWords, bodyLength}
 use Rattle.agreement.specs.Lists.{all-at, drop-at, drop-suc}
 use Rattle.agreement.specs.Leads.{cases, Machine, Leads, within, go, stop, At, halves}
+use Rattle.agreement.specs.Lengths.{length-argumentWords}
 use Rattle.agreement.specs.Registers.{options, names, Loaded, Extends, mem-names, under-store, extends-new}
 use Rattle.agreement.specs.Cursors.{change-same, Same, same-change, Idle, Ready, ready-move, ready-off, ready-row, ready-back, ready-all}
 
@@ -33,7 +34,7 @@ module _ {m : Machine} {cursors : Cursors} {work : Work} where
       → Loaded bindings bound values → getElem? (m .words) p ≡ some (argumentWord c i seek bound t) → argumentUnder (m .board) (cursors c) i ≡ some n
       → (agree t n bindings ≡ none → Leads m limit (stand seek values cursors work) f)
       → ((bindings′ : Bindings) (values′ : Values) → agree t n bindings ≡ some bindings′ → Loaded bindings′ (boundByTerm t bound) values′
-          → Extends bindings bindings′ → Leads m limit (stand (suc p) values′ cursors work) f)
+      → Extends bindings bindings′ → Leads m limit (stand (suc p) values′ cursors work) f)
       → Leads m (suc limit) (stand p values cursors work) f
   argument c i n {values} {bindings} (constant v) l w row fails agrees =
       cases (eqb n v)
@@ -57,7 +58,7 @@ module _ {m : Machine} {cursors : Cursors} {work : Work} where
       → drop i (row .numbers) ≡ numbers → Loaded bindings bound values → At m p (argumentWords c i seek bound terms)
       → (agreeAll terms numbers bindings ≡ none → (values′ : Values) → Loaded bindings bound values′ → Leads m limit (stand seek values′ cursors work) f)
       → ((bindings′ : Bindings) (values′ : Values) → agreeAll terms numbers bindings ≡ some bindings′ → Loaded bindings′ (boundByTerms terms bound) values′
-          → Extends bindings bindings′ → Leads m limit (stand (p + length terms) values′ cursors work) f)
+      → Extends bindings bindings′ → Leads m limit (stand (p + length terms) values′ cursors work) f)
       → Leads m (length terms + limit) (stand p values cursors work) f
   unfolding agreeAll argumentWords boundByTerms
   arguments c on? [] [] i p {values} {bindings} ln dr l w fails agrees = within (omega arith) (rw add-zero at (agrees bindings values refl l (λ v u. u)))
@@ -74,6 +75,19 @@ module _ {m : Machine} {cursors : Cursors} {work : Work} where
 abbrev pub atomWords : ℕ → ℕ → ℕ → List ℕ → Atom → List Word
 atomWords c p back bound a = OPEN c ∷ SEEK c (a .kind) back ∷ argumentWords c 0 (suc p) bound (a .terms)
 
+-- a body's first atom, and the atoms behind it
+pub body-halves : (m : Machine) (c p back : ℕ) (bound : List ℕ) (a : Atom) (atoms : List Atom) (tests : List Test) → At m p (bodyWords c p back bound (a ∷ atoms) tests)
+    → At m p (atomWords c p back bound a)
+    × At m (suc (suc p) + length (a .terms)) (bodyWords (suc c) (suc (suc p) + length (a .terms)) (suc p) (boundByTerms (a .terms) bound) atoms tests)
+unfolding bodyWords
+body-halves m c p back bound a atoms tests w =
+    halves m p (suc (suc p) + length (a .terms)) (atomWords c p back bound a) _ (omega (arith, length-argumentWords c 0 (suc p) bound (a .terms))) w
+
+pub body-exit : (p : ℕ) (a : Atom) (atoms : List Atom) (tests : List Test)
+    → p + bodyLength (a ∷ atoms) tests ≡ suc (suc p) + length (a .terms) + bodyLength atoms tests
+unfolding bodyLength
+body-exit p a atoms tests = omega arith
+
 -- What is to come of an atom's rows, with what has been done before them, and how it comes: rows that do not fit are skipped, behind the last
 -- row the words go `back`, and with a row that fits they come to the words behind the atom, from where they may come back to SEEK.
 pub record Rows {X : Type 0} (m : Machine) (a : Atom) (c p back : ℕ) (bound : List ℕ) (before : Cursors)
@@ -81,13 +95,13 @@ pub record Rows {X : Type 0} (m : Machine) (a : Atom) (c p back : ℕ) (bound : 
   pub skips : (x : X) (r : Row) (rest : List Row) → fitRow (m .kinds) a r (known x) ≡ none → after x (r ∷ rest) ≡ after x rest
   pub none-left : (x : X) (values : Values) (cursors : Cursors) → Ready c c before bound (known x) values cursors (work x .used)
       → Leads m N (stand back values cursors (work x)) (after x [])
-  pub fits : (x : X) (r : Row) (rest : List Row) (known′ : Known) (values : Values) (cursors : Cursors) {limit : ℕ} → N ≤ limit
+  pub fits : (x : X) (r : Row) (rest : List Row) (known′ : Known) (values : Values) (cursors : Cursors) (M : ℕ) → N ≤ M
       → fitRow (m .kinds) a r (known x) ≡ some known′ → Extends (known x .bindings) (known′ .bindings)
       → Ready c (suc c) before bound (known x) values cursors (work x .used)
       → Ready (suc c) (suc c) cursors (boundByTerms (a .terms) bound) known′ values cursors (work x .used)
       → ((x′ : X) (values′ : Values) (cursors′ : Cursors) → Ready c (suc c) before bound (known x′) values′ cursors′ (work x′ .used) → cursors′ c ≡ cursors c
-          → Leads m limit (stand (suc p) values′ cursors′ (work x′)) (after x′ rest))
-      → Leads m (K + limit) (stand (suc (suc p) + length (a .terms)) values cursors (work x)) (after x (r ∷ rest))
+      → Leads m M (stand (suc p) values′ cursors′ (work x′)) (after x′ rest))
+      → Leads m (K + M) (stand (suc (suc p) + length (a .terms)) values cursors (work x)) (after x (r ∷ rest))
 
 -- the board's rows have as many numbers as their kinds say
 pub row-arity : {kinds : List Kind} {board : Board} → GoodBoard kinds board → (class : Bool) (n : ℕ) (f : Fact) → getElem? (rowsOf board class) n ≡ some f
@@ -116,10 +130,10 @@ module _ {X : Type 0} {m : Machine} (good : GoodBoard (m .kinds) (m .board)) (a 
   -- the rows that SEEK may take are those that may stand for the atom
   seeks : (x : X) (values : Values) (cursors : Cursors) → Seeking x values cursors → (o : Option ℕ) → seekFrom (willDo x) facts (cursors c) ≡ o
       → execute (m .kinds) (m .board) (SEEK c (a .kind) back) (stand (suc p) values cursors (work x))
-          ≡ sought (m .kinds) (m .board) c (a .kind) back (stand (suc p) values cursors (work x)) o
+      ≡ sought (m .kinds) (m .board) c (a .kind) back (stand (suc p) values cursors (work x)) o
   seeks x values cursors r o e =
       let gone : goneFor (m .kinds) (m .board) c (stand (suc p) values cursors (work x)) ≡ known x .gone
-              = fun-ext (ready-all (ready-off r opened (λ row. refl)) (omega arith) .holding) in
+      = fun-ext (ready-all (ready-off r opened (λ row. refl)) (omega arith) .holding) in
       rw (gone, e)
 
   loop : (fs : List Fact) (n : ℕ) (x : X) (values : Values) (cursors : Cursors) → Seeking x values cursors
@@ -136,13 +150,13 @@ module _ {X : Type 0} {m : Machine} (good : GoodBoard (m .kinds) (m .board)) (a 
       let dr′ : drop (suc n) facts ≡ fs = drop-suc n facts f fs dr in
       cases (willDo x n f)
       (λ y. let again : (x′ : X) (values′ : Values) (cursors′ : Cursors) → Seeking x′ values′ cursors′ → cursors′ c ≡ cursors₁ c
-              → Leads m M (stand (suc p) values′ cursors′ (work x′)) (after x′ rest)
-              = λ x′ v′ cu′ r′ e. loop fs (suc n) x′ v′ cu′ r′ (rw (e, change-same cursors c (on class n), dr′)) dr′ in
+      → Leads m M (stand (suc p) values′ cursors′ (work x′)) (after x′ rest)
+      = λ x′ v′ cu′ r′ e. loop fs (suc n) x′ v′ cu′ r′ (rw (e, change-same cursors c (on class n), dr′)) dr′ in
       within {n = suc (length (a .terms) + (K + M))} (omega arith) (go (w .1 .0) (seeks x values cursors r (some n) (place ∙ rw y))
       (arguments c {row = f} (rw (change-same cursors c (on class n)) (drop-at n facts f fs dr)) (a .terms) (f .numbers) 0 (suc (suc p))
       (row-arity good class n f (drop-at n facts f fs dr) ∙ rw (stand-kind (m .kinds) (a .kind) (known x .gone) n f y) (sym arity)) refl (r .loaded) (w .1 .1)
       (λ q v l. rw (rows .skips x row rest (rw (y, q))) (within (omega arith) (again x v cursors₁ (ready-move (omega arith) r (on class n) l) refl)))
-      (λ e v q l ext. rows .fits x row rest (record { bindings = e; gone = takeRow class n (known x .gone) }) v cursors₁ (omega arith) (rw (y, q)) ext
+      (λ e v q l ext. rows .fits x row rest (record { bindings = e; gone = takeRow class n (known x .gone) }) v cursors₁ M (omega arith) (rw (y, q)) ext
       (ready-move (omega arith) r (on class n) (record { named = r .loaded .named; agreed = ext v (l .agreed) })) (ready-row r class n l) again))))
       (λ y. rw (rows .skips x row rest (rw y)) (within (omega arith) (loop fs (suc n) x values cursors r (place ∙ rw y) dr′)))
 

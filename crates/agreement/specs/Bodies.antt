@@ -15,12 +15,11 @@ use Rattle.meaning.specs.Firing.{Work, Firing}
 use Rattle.meaning.specs.Words.{Word, TEST, Cursors, cursorCount}
 use Rattle.meaning.specs.Translation.{boundBy, boundByTerms, testWords, bodyWords, bodyLength}
 use Rattle.meaning.specs.WellFormed.{GoodTest, GoodAtom, GoodBoard, anyVariable}
-use Rattle.agreement.specs.Leads.{cases, Machine, Leads, within, go, At, halves}
-use Rattle.agreement.specs.Lengths.{length-argumentWords}
+use Rattle.agreement.specs.Leads.{cases, Machine, Leads, within, go, At}
 use Rattle.agreement.specs.Registers.{Loaded, Extends, test-agrees}
 use Rattle.agreement.specs.Cursors.{Same, Ready, ready-back, ready-all}
 use Rattle.agreement.specs.Choices.{fitFrom, firstFit-rows, fitFrom-none, fitFrom-some}
-use Rattle.agreement.specs.Atoms.{stand, atomWords, Rows, atom-rows}
+use Rattle.agreement.specs.Atoms.{stand, body-halves, body-exit, Rows, atom-rows}
 
 -- tests: on to the target if one does not hold
 tests-hold : {m : Machine} {cursors : Cursors} {work : Work} {f : Firing} {values : Values} {bindings : Bindings} {bound : List ℕ} {seek limit : ℕ}
@@ -49,7 +48,7 @@ pub search-body : {m : Machine} → GoodBoard (m .kinds) (m .board) → (tests :
     → Ready c c before bound known values cursors (work .used)
     → ((values′ : Values) (cursors′ : Cursors) → Ready c c before bound known values′ cursors′ (work .used) → Leads m limit (stand back values′ cursors′ work) (k none))
     → ((known′ : Known) (values′ : Values) (cursors′ : Cursors) → Ready cursorCount cursorCount cursors′ (boundBy atoms bound) known′ values′ cursors′ (work .used)
-        → Same c before cursors′ → Extends (known .bindings) (known′ .bindings) → Leads m limit (stand (p + bodyLength atoms tests) values′ cursors′ work) (k (some known′)))
+    → Same c before cursors′ → Extends (known .bindings) (known′ .bindings) → Leads m limit (stand (p + bodyLength atoms tests) values′ cursors′ work) (k (some known′)))
     → Leads m (cost (m .kinds) (m .board) tests 0 atoms + limit) (stand p values cursors work) (k (firstFit (m .kinds) (m .board) atoms tests known))
 unfolding firstFit first choices fit bodyWords bodyLength boundBy cost
 search-body good tests [] atoms-good {c} {limit} p {cursors} {known} {values} k bound-tests room w r fails finds =
@@ -57,20 +56,19 @@ search-body good tests [] atoms-good {c} {limit} p {cursors} {known} {values} k 
     (λ q. rw q (fails values cursors r))
     (λ q. rw q (finds known values cursors (ready-all r (omega arith)) (r .same) (λ v u. u))))
 search-body {m} good tests (a ∷ atoms) atoms-good {c} {back} {limit} p {bound} {before} {cursors} {known} {values} {work} k bound-tests room w r fails finds =
-    let parts = halves m p (suc (suc p) + length (a .terms)) (atomWords c p back bound a) _ (omega (arith, length-argumentWords c 0 (suc p) bound (a .terms))) w in
-    let exit : p + suc (suc (length (a .terms) + bodyLength atoms tests)) ≡ suc (suc p) + length (a .terms) + bodyLength atoms tests = omega arith in
+    let parts = body-halves m c p back bound a atoms tests w in
     let rows : Rows {X = Unit {0}} m a c p back bound before (λ _. work) (λ _. known) (λ _ rest. k (first (fitFrom (m .kinds) (m .board) tests a atoms known) rest))
-            (cost (m .kinds) (m .board) tests 0 atoms) limit
-            = record {
+    (cost (m .kinds) (m .board) tests 0 atoms) limit
+    = record {
       skips = λ _ row rest q. rw (fitFrom-none (m .kinds) (m .board) tests a atoms known row q);
       none-left = λ _ v cu r′. fails v cu r′;
-      fits = λ _ row rest known′ v cu h q ext here deep again.
+      fits = λ _ row rest known′ v cu M h q ext here deep again.
           rw (fitFrom-some (m .kinds) (m .board) tests a atoms known known′ row q)
           (search-body good tests atoms (atoms-good .1) (suc (suc p) + length (a .terms)) (λ o. k (orElse o (first (fitFrom (m .kinds) (m .board) tests a atoms known) rest)))
           bound-tests (omega arith) (parts .1) deep
           (λ v′ cu′ r′. again tt v′ cu′ (ready-back here (record { named = r .loaded .named; agreed = ext v′ (r′ .loaded .agreed) }) (λ i l. r′ .same i (omega arith)) (r′ .idle))
-              (r′ .same c (omega arith)))
-          (λ known″ v′ cu′ r′ same ext′. within h (rw exit at (finds known″ v′ cu′ r′ (λ i l. same i (omega arith) ∙ here .same i l) (λ u d. ext u (ext′ u d))))));
+          (r′ .same c (omega arith)))
+          (λ known″ v′ cu′ r′ same ext′. within h (rw (body-exit p a atoms tests) at (finds known″ v′ cu′ r′ (λ i l. same i (omega arith) ∙ here .same i l) (λ u d. ext u (ext′ u d))))));
     } in
     rw (firstFit-rows (m .kinds) (m .board) tests a atoms known)
     (within (omega arith) (atom-rows good a (atoms-good .0 .arity) (omega arith) (parts .0) rows tt values cursors r))

@@ -6,3 +6,6 @@ pub mod Choices
 pub mod Lengths
 pub mod Atoms
 pub mod Bodies
+pub mod Made
+pub mod Heads
+pub mod Sweeps
