@@ -9,3 +9,4 @@ pub mod Bodies
 pub mod Made
 pub mod Heads
 pub mod Sweeps
+pub mod Rules

@@ -33,6 +33,13 @@ cost-more kinds board tests more (a ∷ atoms) =
     let row : suc (length (a .terms) + cost kinds board tests 0 atoms) ≤ suc (length (a .terms) + cost kinds board tests more atoms) = omega arith in
     omega (arith, mul-le-mul-left (length (rowsOf board (isCard kinds (a .kind)))) row)
 
+-- what comes of more work is an outcome too, for many pieces of work as for one
+pub later-fold : (Outcome : (Work → Firing) → Type 0) {A : Type 0} (f : Work → A → Work) → ((k : Work → Firing) (x : A) → Outcome k → Outcome (λ work. k (f work x)))
+    → (k : Work → Firing) → Outcome k → (xs : List A) → Outcome (λ work. k (fold f work xs))
+unfolding fold
+later-fold Outcome f one k outcome [] = outcome
+later-fold Outcome f one k outcome (x ∷ xs) = one (λ work. k (fold f work xs)) x (later-fold Outcome f one k outcome xs)
+
 -- Outcomes are what comes of the work done so far; what comes of more work is an outcome too.
 module _ (m : Machine) (good : GoodBoard (m .kinds) (m .board)) (tests : List Test) (taking : Taking) (Outcome : (Work → Firing) → Type 0)
     (later : (k : Work → Firing) (o : Work → Option Known) → Outcome k → Outcome (λ work. k (taking .take work (o work)))) (leaf : ℕ) where
@@ -42,17 +49,11 @@ module _ (m : Machine) (good : GoodBoard (m .kinds) (m .board)) (tests : List Te
   abbrev board : Board
   board = m .board
 
-  later-fold : {A : Type 0} (f : Work → A → Work) → ((k : Work → Firing) (x : A) → Outcome k → Outcome (λ work. k (f work x)))
-      → (k : Work → Firing) → Outcome k → (xs : List A) → Outcome (λ work. k (fold f work xs))
-  unfolding fold
-  later-fold f one k outcome [] = outcome
-  later-fold f one k outcome (x ∷ xs) = one (λ work. k (fold f work xs)) x (later-fold f one k outcome xs)
-
   later-rows : (a : Atom) (atoms : List Atom) (bindings : Bindings) (k : Work → Firing) → Outcome k → (rows : List Row)
       → Outcome (λ work. k (fold (sweepFrom kinds board tests taking a atoms bindings) work rows))
   unfolding sweepFrom
-  later-rows a atoms bindings = later-fold (sweepFrom kinds board tests taking a atoms bindings)
-      (λ k r outcome. later-fold (λ w c. taking .take w (fit kinds (a ∷ atoms) tests (r ∷ c) (knows bindings w)))
+  later-rows a atoms bindings = later-fold Outcome (sweepFrom kinds board tests taking a atoms bindings)
+      (λ k r outcome. later-fold Outcome (λ w c. taking .take w (fit kinds (a ∷ atoms) tests (r ∷ c) (knows bindings w)))
       (λ k′ c. later k′ (λ w. fit kinds (a ∷ atoms) tests (r ∷ c) (knows bindings w))) k outcome (choices kinds board atoms))
 
   -- what comes of the work and an atom's further rows
