@@ -10,3 +10,5 @@ pub mod Made
 pub mod Heads
 pub mod Sweeps
 pub mod Rules
+pub mod Sizes
+pub mod Strip
