@@ -12,3 +12,5 @@ pub mod Sweeps
 pub mod Rules
 pub mod Sizes
 pub mod Strip
+pub mod Attempts
+pub mod Bound
