@@ -70,6 +70,15 @@ attempt-spent book board steps takes allowance = (
   λ h. rw (lt-leb steps allowance h) at (takes allowance),
 )
 
+-- "ends with the answer and board of demand 2": what an attempt is done with is the book's firing.
+pub attempt-done : {book : Book} {board : Board} {firing : Firing} → GoodBook book → GoodBoard (book .kinds) board → (allowance : ℕ)
+    → attempt (translate book) allowance board ≡ done firing → fire book board ≡ firing
+attempt-done {book} {board} {firing} good board-good allowance h =
+    let takes = attempt-takes good board-good in
+    cases (leb (takes .0) allowance)
+    (λ y. let e : done (fire book board) ≡ done firing = sym (rw y at (takes .2 allowance)) ∙ h in cc)
+    (λ y. let e : spent ≡ done firing = sym (rw y at (takes .2 allowance)) ∙ h in let z : _≡_ {A = ℕ} 0 1 = cc in absurd (omega arith))
+
 -- "a translated strip is never stuck"
 pub attempt-not-stuck : {book : Book} {board : Board} → GoodBook book → GoodBoard (book .kinds) board → (allowance : ℕ) → attempt (translate book) allowance board ≡ stuck → ⊥
 attempt-not-stuck {book} {board} good board-good allowance h =

@@ -14,3 +14,5 @@ pub mod Sizes
 pub mod Strip
 pub mod Attempts
 pub mod Bound
+pub mod Boards
+pub mod Runs
