@@ -1,21 +1,21 @@
 -- One attempt of a translated strip: it takes some number of steps; with an allowance of so many it ends as the book's firing does, with less
 -- it is SPENT, and it is never STUCK.
 use mathlib.Core.Path.{_≡_, refl, sym, _∙_}
-use Prim.Native.Nat.{ℕ, zero, suc, _+_, _≤_, _<_}
+use Prim.Native.Nat.{ℕ, suc, _≤_, _<_}
 use native.Mathlib.Omega.{arith}
-use mathlib.Core.Bool.{Bool, true, false, false≢true}
+use mathlib.Core.Bool.{false≢true}
 use mathlib.Core.Logic.{_↔_}
-use mathlib.Core.Option.{Option, some}
+use mathlib.Core.Option.{some}
 use mathlib.Core.List.{List, [], _∷_, _++_, map}
 use lib.ListN.{length, getElem?, length-append, length-map}
 use lib.Seq.{append-snoc}
 use lib.Dec.{leb}
-use borrow.Author.Tests.{leb-true, leb-false, lt-leb}
+use borrow.Author.Tests.{leb-false, lt-leb}
 use Rattle.meaning.specs.Basics.{if_then_else_}
 use Rattle.meaning.specs.Facts.{Kind, Board}
 use Rattle.meaning.specs.Rules.{Book}
-use Rattle.meaning.specs.Firing.{Firing, fire, Attempt, done, spent, stuck}
-use Rattle.meaning.specs.Words.{Word, stripKinds, start, attempt}
+use Rattle.meaning.specs.Firing.{Firing, fire, done, spent, stuck}
+use Rattle.meaning.specs.Words.{Word, start, attempt}
 use Rattle.meaning.specs.Translation.{kindWord, rulesWords, translate}
 use Rattle.meaning.specs.WellFormed.{GoodBook, GoodBoard}
 use Rattle.agreement.specs.Leads.{cases, Machine, Leads, At}

@@ -1,18 +1,18 @@
 -- A firing leaves a well-formed board: made facts have their kinds' numbers, and each number comes from a constant of the book or from a row.
-use mathlib.Core.Path.{_≡_, refl, sym, ap, _∙_}
-use Prim.Native.Nat.{ℕ, zero, suc, _≤_, _<_}
+use mathlib.Core.Path.{_≡_, refl, _∙_}
+use Prim.Native.Nat.{ℕ, suc, _<_}
 use native.Mathlib.Omega.{arith}
-use mathlib.Core.Bool.{Bool, true, false, not, _&&_, false≢true}
+use mathlib.Core.Bool.{Bool, true, false, _&&_, false≢true}
 use mathlib.Core.Option.{Option, none, some}
-use mathlib.Core.List.{List, [], _∷_, _++_, map}
+use mathlib.Core.List.{List, [], _∷_, map}
 use lib.ListN.{length, length-map}
 use lib.Dec.{eqb, leb}
 use borrow.Author.Tests.{leb-true, not-true}
 use Rattle.meaning.specs.Basics.{if_then_else_, _>>=_, orElse, first, fold, All}
-use Rattle.meaning.specs.Facts.{Kind, Fact, Board, numberLimit, mostCards, mostNotices, isCard, arityOf, rowsOf}
+use Rattle.meaning.specs.Facts.{Kind, Fact, Board, numberLimit, mostCards, mostNotices, isCard, rowsOf}
 use Rattle.meaning.specs.Rules.{Term, constant, variable, Atom, Test, Sweep, Rule, Book, valueOf}
-use Rattle.meaning.specs.Fit.{Row, Choice, Marks, Binding, Bindings, Known, lookup, orZero, valuesOf, nothingKnown, agree, agreeVariable, agreeAll, mayStand, takeRow, fitRow, holdAll, fit, numbered, spread, choices, firstFit}
-use Rattle.meaning.specs.Firing.{Work, headFact, headFacts, taken, takeIfFits, runSweep, runSweeps, bodyWork, ruleWork, unusedRows, ofClass, boardAfter, hasRoom, settle, Firing, quiet, full, fired, fireRule, fireFrom, fire}
+use Rattle.meaning.specs.Fit.{Row, Choice, Marks, Bindings, Known, lookup, valuesOf, nothingKnown, agree, agreeVariable, agreeAll, mayStand, fitRow, holdAll, fit, numbered, spread, choices, firstFit}
+use Rattle.meaning.specs.Firing.{Work, headFacts, taken, takeIfFits, runSweep, runSweeps, bodyWork, ruleWork, unusedRows, ofClass, boardAfter, hasRoom, settle, Firing, quiet, full, fired, fireRule, fireFrom, fire}
 use Rattle.meaning.specs.WellFormed.{GoodTerm, GoodAtom, GoodSweep, GoodRule, GoodBook, GoodFact, GoodBoard}
 use Rattle.agreement.specs.Lists.{all-append, all-map}
 use Rattle.agreement.specs.Leads.{cases}

@@ -1,6 +1,6 @@
 -- Which cursors hold what. At a body's words the card rows that are gone are those used, or held by the cursors of the atoms before; the
 -- cursors behind hold only used rows.
-use mathlib.Core.Path.{_≡_, refl, sym, ap, _∙_, fun-ext}
+use mathlib.Core.Path.{_≡_, refl, sym, _∙_}
 use Prim.Native.Nat.{ℕ, zero, suc, _≤_, _<_}
 use native.Mathlib.Omega.{arith}
 use mathlib.Core.Bool.{Bool, true, false, _||_, or-true, or-false, or-comm, false≢true}
@@ -8,10 +8,10 @@ use mathlib.Core.List.{List}
 use mathlib.Core.Logic.{_≢_}
 use lib.Dec.{eqb, leb, ltb}
 use borrow.Author.Tests.{eqb-true, eqb-false, ne-eqb, eq-eqb, leb-true, leb-false, ltb-true, ltb-false}
-use Rattle.meaning.specs.Basics.{if_then_else_, change}
+use Rattle.meaning.specs.Basics.{change}
 use Rattle.meaning.specs.Rules.{Values}
 use Rattle.meaning.specs.Fit.{Marks, Bindings, Known, takeRow}
-use Rattle.meaning.specs.Words.{Cursor, on, Cursors, cursorCount, holdsRow, heldBy, held}
+use Rattle.meaning.specs.Words.{Cursor, on, Cursors, cursorCount, holdsRow, heldBy}
 use Rattle.agreement.specs.Leads.{cases}
 use Rattle.agreement.specs.Registers.{Loaded}
 

@@ -1,20 +1,20 @@
 -- Heads: KEEP, PUT and ARG make the head atoms' facts under the values, or end the attempt with FULL where the made list has no room.
-use mathlib.Core.Path.{_≡_, refl, sym, ap, _∙_, fun-ext}
-use Prim.Native.Nat.{ℕ, zero, suc, _+_, _≤_}
+use mathlib.Core.Path.{_≡_, refl, fun-ext}
+use Prim.Native.Nat.{ℕ, suc, _+_}
 use native.Mathlib.Nat.{add-zero, add-suc, suc-add}
 use native.Mathlib.Omega.{arith}
-use mathlib.Core.Bool.{Bool, true, false, _||_}
+use mathlib.Core.Bool.{false, _||_}
 use mathlib.Core.Option.{Option, none, some}
 use mathlib.Core.List.{List, [], _∷_, _++_, map, append-nil}
 use lib.ListN.{length, replicate, length-append}
 use lib.Seq.{set-append-seam, append-snoc}
 use borrow.Author.Tests.{lt-ltb}
-use Rattle.meaning.specs.Basics.{if_then_else_, _>>=_, mem, All}
+use Rattle.meaning.specs.Basics.{mem, All}
 use Rattle.meaning.specs.Facts.{Kind, Fact, arityOf}
 use Rattle.meaning.specs.Rules.{Term, Atom, Values, valueOf}
 use Rattle.meaning.specs.Fit.{Bindings, Known, Marks, valuesOf}
 use Rattle.meaning.specs.Firing.{Work, headFact, headFacts, taken, Firing, full}
-use Rattle.meaning.specs.Words.{Word, KEEP, PUT, ARG, Cursors, cursorCount, held, State, state, going, madeHasRoom, setNumber, onLast}
+use Rattle.meaning.specs.Words.{KEEP, Cursors, cursorCount, held, state, madeHasRoom, setNumber, onLast}
 use Rattle.meaning.specs.Translation.{argWords, headWords, headLength}
 use Rattle.meaning.specs.WellFormed.{GoodTerm, GoodAtom}
 use Rattle.agreement.specs.Leads.{cases, Machine, Leads, within, go, stop, At, halves}

@@ -1,18 +1,18 @@
 -- Steps in a row: `Leads` says that from a state the attempt ends with a firing, and in how many steps at the most. Each word's law takes what
 -- the state after it leads to; so the proofs go backwards, from FIRE and QUIET to the first word.
-use mathlib.Core.Path.{_≡_, refl, ap, _∙_}
+use mathlib.Core.Path.{_≡_, refl, ap}
 use Prim.Native.Nat.{ℕ, zero, suc, _+_, _≤_}
-use native.Mathlib.Nat.{add-zero, add-suc, suc-add}
+use native.Mathlib.Nat.{add-zero}
 use native.Mathlib.Omega.{arith}
 use mathlib.Core.Bool.{Bool, true, false}
-use mathlib.Core.Option.{Option, some}
+use mathlib.Core.Option.{some}
 use mathlib.Core.List.{List, [], _∷_, _++_}
 use lib.ListN.{length, getElem?}
 use lib.Dec.{leb, leb·zero, leb·suc-suc, leb·suc-zero}
 use Rattle.meaning.specs.Basics.{if_then_else_}
-use Rattle.meaning.specs.Facts.{Kind, Fact, Board}
+use Rattle.meaning.specs.Facts.{Kind, Board}
 use Rattle.meaning.specs.Firing.{Firing, done, spent}
-use Rattle.meaning.specs.Words.{Word, State, Stepped, going, ends, execute, executeAt, step, goOnFrom, attemptFrom}
+use Rattle.meaning.specs.Words.{Word, State, going, ends, execute, executeAt, step, attemptFrom}
 
 -- a flag's two cases, with the equation
 pub cases {ℓ} : {X : Type ℓ} (t : Bool) → (t ≡ true → X) → (t ≡ false → X) → X

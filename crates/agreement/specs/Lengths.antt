@@ -1,12 +1,10 @@
 -- The words of each part are as many as the translation reckons, so that its addresses are where the words stand.
 use mathlib.Core.Path.{_≡_, refl, ap}
 use Prim.Native.Nat.{ℕ, suc, _+_}
-use native.Mathlib.Omega.{arith}
-use mathlib.Core.List.{List, [], _∷_, _++_, map}
+use mathlib.Core.List.{List, [], _∷_}
 use lib.ListN.{length, length-append}
 use Rattle.meaning.specs.Facts.{Kind, mostInSweep}
 use Rattle.meaning.specs.Rules.{Term, Atom, Test, Sweep, Rule}
-use Rattle.meaning.specs.Words.{Word}
 use Rattle.meaning.specs.Translation.{boundByTerms, argumentWords, testWords, bodyWords, bodyLength, argWords, headWords, headLength, sweepWords, sweepLength, sweepsWords, sweepsLength, ruleWords, ruleLength}
 
 pub length-argumentWords : (c i seek : ℕ) (bound : List ℕ) (terms : List Term) → length (argumentWords c i seek bound terms) ≡ length terms

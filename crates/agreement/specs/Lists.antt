@@ -1,8 +1,8 @@
 -- Laws of lists that several files use: what holds of each element, and the elements behind a place.
-use mathlib.Core.Path.{_≡_, refl, ap}
+use mathlib.Core.Path.{_≡_, ap}
 use Prim.Native.Nat.{ℕ, zero, suc}
 use native.Mathlib.Omega.{arith}
-use mathlib.Core.Option.{Option, none, some}
+use mathlib.Core.Option.{some}
 use mathlib.Core.List.{List, [], _∷_, _++_, nil≢cons, head-eq-of-cons-eq, tail-eq-of-cons-eq}
 use lib.ListN.{drop, getElem?}
 use Rattle.meaning.specs.Basics.{All}

@@ -3,14 +3,14 @@
 use mathlib.Core.Path.{_≡_, refl, sym, ap, _∙_}
 use Prim.Native.Nat.{ℕ}
 use native.Mathlib.Omega.{arith}
-use mathlib.Core.Bool.{Bool, true, false, _||_, false≢true}
+use mathlib.Core.Bool.{Bool, true, false, false≢true}
 use mathlib.Core.Option.{Option, none, some}
 use mathlib.Core.List.{List, [], _∷_, map}
 use lib.Dec.{eqb}
 use borrow.Author.Tests.{eqb-true}
-use Rattle.meaning.specs.Basics.{if_then_else_, change, mem, All}
-use Rattle.meaning.specs.Rules.{Term, constant, variable, Test, compare, Values, valueOf, holds}
-use Rattle.meaning.specs.Fit.{Binding, Bindings, lookup, orZero, valuesOf, Under}
+use Rattle.meaning.specs.Basics.{change, mem}
+use Rattle.meaning.specs.Rules.{Term, constant, variable, Test, Values, valueOf, holds}
+use Rattle.meaning.specs.Fit.{Bindings, lookup, valuesOf, Under}
 use Rattle.meaning.specs.WellFormed.{GoodTerm, GoodTest}
 use Rattle.agreement.specs.Leads.{cases}
 
@@ -27,9 +27,9 @@ pub record Loaded (bindings : Bindings) (bound : List ℕ) (values : Values) : T
   pub named : names bindings ≡ bound
   pub agreed : Under bindings values
 
--- registers that agree with the later values agree with the earlier ones
-abbrev pub Extends : Bindings → Bindings → Type 0
-Extends bindings bindings′ = (values : Values) → Under bindings′ values → Under bindings values
+-- registers loaded with later values are loaded with the earlier ones
+abbrev pub Extends : Bindings → List ℕ → Bindings → List ℕ → Type 0
+Extends bindings bound bindings′ bound′ = (values : Values) → Loaded bindings′ bound′ values → Loaded bindings bound values
 
 abbrev isSome : Option ℕ → Bool
 isSome none = false
@@ -44,11 +44,16 @@ mem-names x (b ∷ more) = cases (eqb x (b .name)) (λ y. rw y) (λ y. rw y (mem
 pub under-store : (bindings : Bindings) (values : Values) (x n : ℕ) → Under bindings values → Under (record { name = x; value = n } ∷ bindings) (change values x n)
 under-store bindings values x n u y v h = cases (eqb y x) (λ q. rw q (let r : some n ≡ some v = rw q at h in cc)) (λ q. rw q (u y v (rw q at h)))
 
-pub extends-new : (bindings : Bindings) (x n : ℕ) → lookup x bindings ≡ none → Extends bindings (record { name = x; value = n } ∷ bindings)
-extends-new bindings x n new values u y v h =
+-- a new value leaves those before it
+under-new : (bindings : Bindings) (values : Values) (x n : ℕ) → lookup x bindings ≡ none → Under (record { name = x; value = n } ∷ bindings) values → Under bindings values
+under-new bindings values x n new u y v h =
     cases (eqb y x)
     (λ q. let z : _≡_ {A = ℕ} 0 1 = cc (ap (λ (i : ℕ). lookup i bindings) (eqb-true y x q)) in absurd (omega arith))
     (λ q. u y v (rw q h))
+
+pub extends-new : {bindings : Bindings} {bound : List ℕ} (x n : ℕ) → lookup x bindings ≡ none → names bindings ≡ bound
+    → (bound′ : List ℕ) → Extends bindings bound (record { name = x; value = n } ∷ bindings) bound′
+extends-new {bindings} x n new named bound′ values l = record { named = named; agreed = under-new bindings values x n new (l .agreed) }
 
 -- a bound term has the same value in the registers
 pub value-agrees : {bindings : Bindings} {bound : List ℕ} {values : Values} → Loaded bindings bound values → (t : Term) → GoodTerm (λ x. mem x bound) t

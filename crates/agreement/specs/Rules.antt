@@ -1,24 +1,23 @@
 -- A rule's words fire it as the book does, or go on to the next rule where no choice fits; the rules in order, then QUIET, do what a firing of
 -- the book does.
-use mathlib.Core.Path.{_≡_, refl, sym, ap, ap₂, subst, fun-ext, _∙_}
-use Prim.Native.Nat.{ℕ, zero, suc, _+_, _*_, _≤_, _<_}
+use mathlib.Core.Path.{_≡_, refl, sym, ap, subst, fun-ext}
+use Prim.Native.Nat.{ℕ, suc, _+_, _*_, _≤_}
 use native.Mathlib.Nat.{add-zero, add-assoc}
 use native.Mathlib.Omega.{arith}
-use mathlib.Core.Bool.{Bool, true, false, _||_, or-assoc, or-comm, or-false}
-use mathlib.Core.Option.{Option, none, some, Option·none-ne-some}
+use mathlib.Core.Bool.{Bool, _||_, or-assoc, or-comm, or-false}
+use mathlib.Core.Option.{Option, some, Option·none-ne-some}
 use mathlib.Core.List.{List, [], _∷_, _++_}
 use lib.ListN.{length}
 use lib.Dec.{eqb}
 use borrow.Author.Tests.{eqb-true}
-use Rattle.meaning.specs.Basics.{if_then_else_, fold, mem, All}
-use Rattle.meaning.specs.Facts.{Kind, Board, mostInRule, mostInSweep, mostSweeps}
+use Rattle.meaning.specs.Basics.{fold, mem, All}
+use Rattle.meaning.specs.Facts.{Kind, Board, mostInRule, mostInSweep}
 use Rattle.meaning.specs.Rules.{Term, constant, variable, Atom, Test, Sweep, Rule, Values, occursInTerms, occursIn}
 use Rattle.meaning.specs.Fit.{Bindings, Known, noMarks, nothingKnown, fit, choices, firstFit}
-use Rattle.meaning.specs.Firing.{Work, taken, takeIfFits, runSweep, runSweeps, bodyWork, ruleWork, settle, Firing, quiet, fired, fireRule, fireFrom}
-use Rattle.meaning.specs.Words.{KEEP, JUMP, FIRE, QUIET, Cursors, cursorCount}
+use Rattle.meaning.specs.Firing.{Work, taken, takeIfFits, runSweep, runSweeps, ruleWork, settle, Firing, fireRule, fireFrom}
+use Rattle.meaning.specs.Words.{KEEP, JUMP, FIRE, Cursors, cursorCount}
 use Rattle.meaning.specs.Translation.{boundByTerm, boundByTerms, boundBy, bodyWords, bodyLength, headWords, headLength, resume, sweepWords, sweepLength, sweepsWords, sweepsLength, ruleWords, ruleLength, rulesWords}
-use Rattle.meaning.specs.WellFormed.{GoodTerm, GoodTest, GoodAtom, GoodGroup, GoodSweep, GoodRule, GoodBoard, anyVariable}
-use Rattle.agreement.specs.Lists.{all-map}
+use Rattle.meaning.specs.WellFormed.{GoodAtom, GoodGroup, GoodSweep, GoodRule, GoodBoard}
 use Rattle.agreement.specs.Leads.{cases, Machine, Leads, within, go, stop, At, halves}
 use Rattle.agreement.specs.Lengths.{length-bodyWords, length-headWords, length-sweepWords, length-sweepsWords, length-ruleWords}
 use Rattle.agreement.specs.Registers.{options, Loaded}
@@ -190,7 +189,7 @@ module _ (m : Machine) (good : GoodBoard (m .kinds) (m .board)) where
       (search-body good (rule .tests) (rule .body) (group .bodyAtoms) p (λ o. fireRule kinds board r rule o later) (group .goodTests) (omega (arith, group .bodySize)) (parts .0)
       (idle-ready 0 0 {before = cursors} (omega arith) (record { named = refl; agreed = λ x v h. absurd (Option·none-ne-some v h) }) (λ i l. refl) idle)
       (λ v cu ready. within (omega arith) (next v cu (ready-idle ready)))
-      (λ known v cu ready same ext. within (omega arith) (fires r p rule known rule-good (parts .1) ready)))
+      (λ known v cu ext same ready. within (omega arith) (fires r p rule known rule-good (parts .1) ready)))
 
   -- THE RULES: their words and QUIET do a firing of the book
   pub rules-done : (rules : List Rule) (r p : ℕ) {values : Values} {cursors : Cursors} → All (GoodRule kinds) rules → At m p (rulesWords kinds r p rules) → Idle 0 noMarks cursors

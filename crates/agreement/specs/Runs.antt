@@ -1,14 +1,13 @@
 -- Demand 3: a translated strip's run is the book's run, cut short at the first attempt that takes more steps than allowed.
 use mathlib.Core.Path.{_≡_, refl, sym, ap, _∙_}
 use mathlib.Core.Logic.{_↔_, _⊎_, inl, inr, ⊎-elim}
-use Prim.Native.Nat.{ℕ, zero, suc, _+_, _≤_, _<_}
+use Prim.Native.Nat.{ℕ, zero, suc, _+_, _<_}
 use native.Mathlib.Nat.{add-zero, zero-add, add-suc, suc-add}
 use native.Mathlib.Omega.{arith}
 use mathlib.Core.Bool.{Bool, true, false, false≢true}
-use mathlib.Core.List.{List}
 use lib.Dec.{leb}
 use Rattle.meaning.specs.Basics.{if_then_else_}
-use Rattle.meaning.specs.Facts.{Kind, Board}
+use Rattle.meaning.specs.Facts.{Board}
 use Rattle.meaning.specs.Rules.{Book}
 use Rattle.meaning.specs.Firing.{Firing, quiet, full, fired, fire, Attempt, done, spent, stuck, End, Quiet, Limit, Full, Spent, Stuck, Ran, noRule, ended, goOn, repeat, run}
 use Rattle.meaning.specs.Words.{attempt, runStrip}

@@ -1,12 +1,11 @@
 -- How long the parts of a well-formed book's strip are at the most: 50 words for a sweep, 174 for a rule.
-use mathlib.Core.Path.{_≡_}
 use Prim.Native.Nat.{ℕ, zero, suc, _+_, _*_, _≤_}
 use native.Mathlib.Omega.{arith}
 use mathlib.Core.Bool.{Bool}
-use mathlib.Core.List.{List, [], _∷_, _++_}
-use lib.ListN.{length, getD, length-append}
+use mathlib.Core.List.{List, [], _∷_}
+use lib.ListN.{length, length-append}
 use Rattle.meaning.specs.Basics.{All}
-use Rattle.meaning.specs.Facts.{Kind, mostNumbers, noKind, arityOf}
+use Rattle.meaning.specs.Facts.{Kind, mostNumbers, arityOf}
 use Rattle.meaning.specs.Rules.{Atom, Test, Sweep, Rule}
 use Rattle.meaning.specs.Translation.{bodyLength, headLength, sweepLength, sweepsLength, ruleLength, rulesWords, ruleWords}
 use Rattle.meaning.specs.WellFormed.{GoodKind, GoodAtom, GoodSweep, GoodRule, anyVariable}

@@ -1,21 +1,21 @@
 -- The translated strip: it declares the book's kinds, ends with QUIET and, for a well-formed book, is a well-formed strip of at most 44,808
 -- bytes. Its parts are gone through once for the fields of their words and once for their lengths.
 use mathlib.Core.Path.{_≡_, refl, sym, ap, _∙_}
-use Prim.Native.Nat.{ℕ, zero, suc, _+_, _*_, _≤_, _<_}
+use Prim.Native.Nat.{ℕ, suc, _+_, _*_, _≤_, _<_}
 use native.Mathlib.Omega.{arith}
-use mathlib.Core.Bool.{Bool, true, false}
+use mathlib.Core.Bool.{Bool}
 use mathlib.Core.List.{List, [], _∷_, _++_, map, append-assoc}
-use lib.ListN.{length, getD, length-append, length-map}
-use Rattle.meaning.specs.Basics.{if_then_else_, mem, All}
-use Rattle.meaning.specs.Facts.{Kind, mostKinds, mostRules, mostInRule, mostSweeps, mostInSweep, variables, mostNumbers, longestStrip, noKind, isCard, arityOf}
+use lib.ListN.{length, length-append, length-map}
+use Rattle.meaning.specs.Basics.{mem, All}
+use Rattle.meaning.specs.Facts.{Kind, mostRules, mostInRule, mostInSweep, mostNumbers, isCard}
 use Rattle.meaning.specs.Rules.{Term, constant, variable, Atom, Test, Sweep, Rule, Book}
-use Rattle.meaning.specs.Words.{Word, KIND, OPEN, SEEK, BIND, SAME, LIT, TEST, KEEP, PUT, ARG, JUMP, FIRE, QUIET, cursorCount, stripKinds}
-use Rattle.meaning.specs.Translation.{boundByTerm, boundByTerms, boundBy, argumentWord, argumentWords, testWords, bodyWords, bodyLength, argWords, headWords, headLength, resume, sweepWords, sweepLength, sweepsWords, sweepsLength, ruleWords, ruleLength, rulesWords, kindWord, translate}
-use Rattle.meaning.specs.WellFormed.{GoodKind, GoodTerm, anyVariable, GoodAtom, GoodTest, GoodGroup, GoodSweep, GoodRule, GoodBook, GoodWord, EndsWell, GoodStrip}
-use Rattle.agreement.specs.Lists.{all-append, all-map}
+use Rattle.meaning.specs.Words.{Word, KEEP, QUIET, cursorCount, stripKinds}
+use Rattle.meaning.specs.Translation.{boundByTerms, boundBy, argumentWords, testWords, bodyWords, bodyLength, argWords, headWords, headLength, resume, sweepWords, sweepLength, sweepsWords, sweepsLength, ruleWords, ruleLength, rulesWords, kindWord, translate}
+use Rattle.meaning.specs.WellFormed.{GoodKind, GoodTerm, anyVariable, GoodAtom, GoodTest, GoodSweep, GoodRule, GoodBook, GoodWord, EndsWell, GoodStrip}
+use Rattle.agreement.specs.Lists.{all-append}
 use Rattle.agreement.specs.Leads.{cases}
 use Rattle.agreement.specs.Sizes.{terms-most, rules-most}
-use Rattle.agreement.specs.Lengths.{length-sweepWords, length-sweepsWords, length-ruleWords}
+use Rattle.agreement.specs.Lengths.{length-ruleWords}
 
 -- ---- kinds
 

@@ -1,25 +1,23 @@
 -- A sweep: its words do what going through all its choices does, whatever the words behind its tests do with a choice, but that they leave its
 -- rows used and go back to the pivot's SEEK. The pivot is the first card atom, or the last atom; for each row of a notice atom before it the
 -- whole sweep of the atoms behind runs.
-use mathlib.Core.Path.{_≡_, refl, sym, ap, _∙_}
-use Prim.Native.Nat.{ℕ, zero, suc, _+_, _*_, _≤_, _<_}
-use native.Mathlib.Nat.{add-zero, add-suc, suc-add, mul-le-mul-left}
+use mathlib.Core.Path.{_≡_, ap, _∙_}
+use Prim.Native.Nat.{ℕ, suc, _+_, _≤_}
+use native.Mathlib.Nat.{mul-le-mul-left}
 use native.Mathlib.Omega.{arith}
-use mathlib.Core.Bool.{Bool, true, false}
 use mathlib.Core.Option.{Option, none, some}
-use mathlib.Core.List.{List, [], _∷_, _++_}
+use mathlib.Core.List.{List, [], _∷_}
 use lib.ListN.{length}
-use Rattle.meaning.specs.Basics.{if_then_else_, fold, mem, All}
+use Rattle.meaning.specs.Basics.{fold, mem, All}
 use Rattle.meaning.specs.Facts.{Kind, Board, isCard, rowsOf}
 use Rattle.meaning.specs.Rules.{Atom, Test, Values}
-use Rattle.meaning.specs.Fit.{Row, Choice, Bindings, Known, fitRow, fit, choices, firstFit, numbered}
+use Rattle.meaning.specs.Fit.{Row, Bindings, Known, fitRow, fit, choices, firstFit}
 use Rattle.meaning.specs.Firing.{Work, Firing}
 use Rattle.meaning.specs.Words.{Cursors, cursorCount}
 use Rattle.meaning.specs.Translation.{boundBy, boundByTerms, bodyWords, bodyLength, resume}
 use Rattle.meaning.specs.WellFormed.{GoodTest, GoodAtom, GoodBoard, anyVariable}
 use Rattle.agreement.specs.Leads.{cases, Machine, Leads, within, At}
-use Rattle.agreement.specs.Registers.{Loaded, Extends}
-use Rattle.agreement.specs.Cursors.{Same, Idle, Ready, ready-back, ready-idle, idle-ready}
+use Rattle.agreement.specs.Cursors.{Idle, Ready, ready-idle, idle-ready}
 use Rattle.agreement.specs.Choices.{Taking, knows, sweepAll, sweepFrom, sweepAll-rows, sweepFrom-none, sweepFrom-card, notice-keeps, sweepFrom-notice, sweepFrom-last}
 use Rattle.agreement.specs.Atoms.{stand, body-halves, body-exit, Rows, atom-rows}
 use Rattle.agreement.specs.Bodies.{cost, search-body}
@@ -83,23 +81,20 @@ module _ (m : Machine) (good : GoodBoard (m .kinds) (m .board)) (tests : List Te
         → Leaf (p + bodyLength (a ∷ atoms) tests) (suc p) (boundBy (a ∷ atoms) bound)
         → Rows m a c p back bound before (λ work. work) (knows bindings) (after k a atoms bindings) (cost kinds board tests leaf atoms) limit
     unfolding fold boundBy
-    pivot-rows pivots leaf-words =
-        let parts = body-halves m c p back bound a atoms tests w in
-        record {
-          skips = skip k a atoms bindings;
-          none-left = leave;
-          fits = λ work r rest known v cu M h q ext here deep again.
-              rw (pivots work r known q)
-              (within {n = cost kinds board tests 0 atoms + (leaf + M)} (omega (arith, cost-more kinds board tests leaf atoms)) (search-body good tests atoms (atoms-good .1) (suc (suc p) + length (a .terms))
-              (λ o. after k a atoms bindings (taking .take work o) rest) bound-tests (omega arith) (parts .1) deep
-              (λ v′ cu′ r′. rw (taking .still work) (within (omega arith) (again work v′ cu′
-              (ready-back here (record { named = here .loaded .named; agreed = ext v′ (r′ .loaded .agreed) }) (λ i l. r′ .same i (omega arith)) (r′ .idle)) (r′ .same c (omega arith)))))
-              (λ known′ v′ cu′ r′ same ext′. let work′ : Work = taking .take work (some known′) in
-              let idle : Idle 0 (work′ .used) cu′ = rw (taking .uses work known′) (ready-idle r′) in
-              rw (← (body-exit p a atoms tests)) (leaf-words M known′ v′ cu′ cu′ work (λ w′. after k a atoms bindings w′ rest) (later-rows a atoms bindings k outcome rest) r′
-              (again work′ v′ cu′ (idle-ready c (suc c) (omega arith) (record { named = here .loaded .named; agreed = ext v′ (ext′ v′ (r′ .loaded .agreed)) })
-              (λ i l. same i (omega arith) ∙ here .same i l) idle) (same c (omega arith)))))));
-        }
+    pivot-rows pivots leaf-words = record {
+      skips = skip k a atoms bindings;
+      none-left = leave;
+      fits = λ work r rest known v cu M h q ext same deep gives-up again.
+          rw (pivots work r known q)
+          (within {n = cost kinds board tests 0 atoms + (leaf + M)} (omega (arith, cost-more kinds board tests leaf atoms))
+          (search-body good tests atoms (atoms-good .1) (suc (suc p) + length (a .terms)) (λ o. after k a atoms bindings (taking .take work o) rest) bound-tests (omega arith)
+          (body-halves m c p back bound a atoms tests w .1) deep
+          (λ v′ cu′ r′. rw (taking .still work) (within (omega arith) (gives-up v′ cu′ r′)))
+          (λ known′ v′ cu′ ext′ same′ r′. let work′ : Work = taking .take work (some known′) in
+          let idle : Idle 0 (work′ .used) cu′ = rw (taking .uses work known′) (ready-idle r′) in
+          rw (← (body-exit p a atoms tests)) (leaf-words M known′ v′ cu′ cu′ work (λ w′. after k a atoms bindings w′ rest) (later-rows a atoms bindings k outcome rest) r′
+          (again work′ v′ cu′ (idle-ready c (suc c) (omega arith) (ext v′ (ext′ v′ (r′ .loaded))) (λ i l. same′ i (omega arith) ∙ same i l) idle) (same′ c (omega arith)))))));
+    }
 
     by-rows : Rows m a c p back bound before (λ work. work) (knows bindings) (after k a atoms bindings) (cost kinds board tests leaf atoms) limit
         → (work : Work) (values : Values) (cursors : Cursors) → Ready c c before bound (knows bindings work) values cursors (work .used)
@@ -131,14 +126,14 @@ module _ (m : Machine) (good : GoodBoard (m .kinds) (m .board)) (tests : List Te
       (λ notice. record {
         skips = skip k a (b ∷ atoms) bindings;
         none-left = leave;
-        fits = λ work r rest known v cu M h q ext here deep again.
+        fits = λ work r rest known v cu M h q ext same deep gives-up again.
             rw (sweepFrom-notice kinds board tests taking a (b ∷ atoms) bindings r work known notice q)
             (sweep-body b atoms (atoms-good .1) (suc (suc p) + length (a .terms)) work (λ w′. after k a (b ∷ atoms) bindings w′ rest)
             (later-rows a (b ∷ atoms) bindings k outcome rest) bound-tests (omega arith) (body-halves m c p back bound a (b ∷ atoms) tests w .1)
             (rw (notice, body-exit p a (b ∷ atoms) tests) at leaf-words)
-            (idle-ready (suc c) (suc c) (omega arith) (deep .loaded) (deep .same) (rw (← (notice-keeps kinds board tests taking a (b ∷ atoms) bindings r work known notice q)) (ready-idle deep)))
+            (idle-ready (suc c) (suc c) (omega arith) (deep .loaded) (deep .same)
+            (rw (← (notice-keeps kinds board tests taking a (b ∷ atoms) bindings r work known notice q)) (ready-idle deep)))
             (λ w′ v′ cu′ r′. again w′ v′ cu′
-            (idle-ready c (suc c) (omega arith) (record { named = here .loaded .named; agreed = ext v′ (r′ .loaded .agreed) }) (λ i l. r′ .same i (omega arith) ∙ here .same i l) (ready-idle r′))
-            (r′ .same c (omega arith))));
+            (idle-ready c (suc c) (omega arith) (ext v′ (r′ .loaded)) (λ i l. r′ .same i (omega arith) ∙ same i l) (ready-idle r′)) (r′ .same c (omega arith))));
       }))
       work values cursors r
