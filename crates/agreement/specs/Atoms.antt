@@ -18,10 +18,10 @@ use Rattle.meaning.specs.Firing.{Work, Firing}
 use Rattle.meaning.specs.WellFormed.{GoodFact, GoodBoard}
 use Rattle.meaning.specs.Words.{Word, cursorCount, OPEN, SEEK, opened, on, past, Cursors, State, state, execute, argumentUnder, rowUnder, nextRow, seekFrom, sought, goneFor}
 use Rattle.meaning.specs.Translation.{boundByTerm, boundByTerms, argumentWord, argumentWords, bodyWords, bodyLength}
-use Rattle.agreement.specs.Lists.{all-at, drop-at, drop-suc}
-use Rattle.agreement.specs.Leads.{cases, Machine, Leads, within, go, At, halves}
+use Rattle.agreement.specs.Tools.{all-at, drop-at, drop-suc, cases, options}
+use Rattle.agreement.specs.Leads.{Machine, Leads, within, go, At, halves}
 use Rattle.agreement.specs.Lengths.{length-argumentWords}
-use Rattle.agreement.specs.Registers.{options, Loaded, Extends, mem-names, under-store, extends-new}
+use Rattle.agreement.specs.Registers.{Loaded, Extends, mem-names, under-store, extends-new}
 use Rattle.agreement.specs.Cursors.{change-same, Same, same-change, Ready, ready-move, ready-off, ready-row, ready-back, ready-all}
 
 -- the state at a word, with that work done

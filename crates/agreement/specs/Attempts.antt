@@ -18,7 +18,8 @@ use Rattle.meaning.specs.Firing.{Firing, fire, done, spent, stuck}
 use Rattle.meaning.specs.Words.{Word, start, attempt}
 use Rattle.meaning.specs.Translation.{kindWord, rulesWords, translate}
 use Rattle.meaning.specs.WellFormed.{GoodBook, GoodBoard}
-use Rattle.agreement.specs.Leads.{cases, Machine, Leads, At}
+use Rattle.agreement.specs.Tools.{cases, impossible}
+use Rattle.agreement.specs.Leads.{Machine, Leads, At}
 use Rattle.agreement.specs.Rules.{rulesCost, rules-done}
 use Rattle.agreement.specs.Strip.{translate-kinds}
 
@@ -65,7 +66,7 @@ attempt-takes {book} good board-good =
 pub attempt-spent : (book : Book) (board : Board) (steps : ℕ) → Takes book board steps → (allowance : ℕ) → (attempt (translate book) allowance board ≡ spent) ↔ (allowance < steps)
 attempt-spent book board steps takes allowance = (
   λ h. cases (leb steps allowance)
-      (λ y. let e : done (fire book board) ≡ spent = sym (rw y at (takes allowance)) ∙ h in let z : _≡_ {A = ℕ} 0 1 = cc in absurd (omega arith))
+      (λ y. impossible (cc (rw y at (takes allowance))))
       (λ y. leb-false steps allowance y),
   λ h. rw (lt-leb steps allowance h) at (takes allowance),
 )
@@ -76,13 +77,13 @@ pub attempt-done : {book : Book} {board : Board} {firing : Firing} → GoodBook 
 attempt-done {book} {board} {firing} good board-good allowance h =
     let takes = attempt-takes good board-good in
     cases (leb (takes .0) allowance)
-    (λ y. let e : done (fire book board) ≡ done firing = sym (rw y at (takes .2 allowance)) ∙ h in cc)
-    (λ y. let e : spent ≡ done firing = sym (rw y at (takes .2 allowance)) ∙ h in let z : _≡_ {A = ℕ} 0 1 = cc in absurd (omega arith))
+    (λ y. cc (rw y at (takes .2 allowance)))
+    (λ y. impossible (cc (rw y at (takes .2 allowance))))
 
 -- "a translated strip is never stuck"
 pub attempt-not-stuck : {book : Book} {board : Board} → GoodBook book → GoodBoard (book .kinds) board → (allowance : ℕ) → attempt (translate book) allowance board ≡ stuck → ⊥
 attempt-not-stuck {book} {board} good board-good allowance h =
     let takes = attempt-takes good board-good in
     cases (leb (takes .0) allowance)
-    (λ y. let e : done (fire book board) ≡ stuck = sym (rw y at (takes .2 allowance)) ∙ h in let z : _≡_ {A = ℕ} 0 1 = cc in omega arith)
-    (λ y. let e : spent ≡ stuck = sym (rw y at (takes .2 allowance)) ∙ h in let z : _≡_ {A = ℕ} 0 1 = cc in omega arith)
+    (λ y. impossible (cc (rw y at (takes .2 allowance))))
+    (λ y. impossible (cc (rw y at (takes .2 allowance))))

@@ -8,29 +8,17 @@ use mathlib.Core.List.{List, [], _∷_, map}
 use lib.ListN.{length, length-map}
 use lib.Dec.{eqb, leb}
 use borrow.Author.Tests.{leb-true, not-true}
-use Rattle.meaning.specs.Basics.{if_then_else_, _>>=_, orElse, first, fold, All}
+use Rattle.meaning.specs.Basics.{orElse, first, fold, All}
 use Rattle.meaning.specs.Facts.{Kind, Fact, Board, numberLimit, mostCards, mostNotices, isCard, rowsOf}
 use Rattle.meaning.specs.Rules.{Term, constant, variable, Atom, Test, Sweep, Rule, Book, valueOf}
-use Rattle.meaning.specs.Fit.{Row, Choice, Marks, Bindings, Known, lookup, valuesOf, nothingKnown, agree, agreeVariable, agreeAll, mayStand, fitRow, holdAll, fit, numbered, spread, choices, firstFit}
+use Rattle.meaning.specs.Fit.{Row, Choice, Marks, Bindings, Known, lookup, valuesOf, nothingKnown, agree, agreeVariable, agreeAll, mayStand, fit, numbered, spread, choices, firstFit}
 use Rattle.meaning.specs.Firing.{Work, headFacts, taken, takeIfFits, runSweep, runSweeps, bodyWork, ruleWork, unusedRows, ofClass, boardAfter, hasRoom, settle, Firing, quiet, full, fired, fireRule, fireFrom, fire}
 use Rattle.meaning.specs.WellFormed.{GoodTerm, GoodAtom, GoodSweep, GoodRule, GoodBook, GoodFact, GoodBoard}
-use Rattle.agreement.specs.Lists.{all-append, all-map}
-use Rattle.agreement.specs.Leads.{cases}
+use Rattle.agreement.specs.Tools.{cases, all-append, all-map, Each, each-if, each-bind}
+use Rattle.agreement.specs.Choices.{fit-keeps}
 use Rattle.agreement.specs.Made.{isOf, ofClass-cons}
 
--- ---- what holds of an answer, where there is one
-
-abbrev Each : {A : Type 0} → (A → Type 0) → Option A → Type 0
-Each P none = Unit {0}
-Each P (some a) = P a
-
-each-if : {A : Type 0} (P : A → Type 0) (t : Bool) (o : Option A) → Each P o → Each P (if t then o else none)
-each-if P true o h = h
-each-if P false o h = tt
-
-each-bind : {A B : Type 0} (P : A → Type 0) (Q : B → Type 0) (o : Option A) (f : A → Option B) → Each P o → ((a : A) → P a → Each Q (f a)) → Each Q (o >>= f)
-each-bind P Q none f h g = tt
-each-bind P Q (some a) f h g = g a h
+-- ---- the first answer, and what many pieces of work do
 
 each-first : {A B : Type 0} (P : A → Type 0) (Q : B → Type 0) (f : A → Option B) → ((a : A) → P a → Each Q (f a)) → (xs : List A) → All P xs → Each Q (first f xs)
 unfolding first
@@ -85,15 +73,11 @@ agreeAll-small (t ∷ terms) (n ∷ numbers) bindings h small =
     each-bind SmallValues SmallValues (agree t n bindings) _ (agree-small t n bindings (h .0) small) (λ b. agreeAll-small terms numbers b (h .1))
 
 fit-small : (kinds : List Kind) (atoms : List Atom) (tests : List Test) (c : Choice) (known : Known) → All SmallRow c → SmallKnown known → Each SmallKnown (fit kinds atoms tests c known)
-unfolding fit
-fit-small kinds [] tests [] known h small = each-if SmallKnown (holdAll (valuesOf (known .bindings)) tests) (some known) small
-fit-small kinds [] tests (r ∷ c) known h small = tt
-fit-small kinds (a ∷ atoms) tests [] known h small = tt
-fit-small kinds (a ∷ atoms) tests (r ∷ c) known h small =
-    each-bind SmallKnown SmallKnown (fitRow kinds a r known) _
-    (each-if SmallKnown (mayStand kinds (a .kind) (known .gone) (r .at) (r .fact)) _
-    (each-bind SmallValues SmallKnown (agreeAll (a .terms) (r .fact .numbers) (known .bindings)) _ (agreeAll-small (a .terms) (r .fact .numbers) (known .bindings) (h .0) small) (λ b k. k)))
-    (λ known′. fit-small kinds atoms tests c known′ (h .1))
+fit-small kinds atoms tests =
+    fit-keeps kinds tests SmallKnown SmallRow
+    (λ a r known h small. each-if SmallKnown (mayStand kinds (a .kind) (known .gone) (r .at) (r .fact)) _
+    (each-bind SmallValues SmallKnown (agreeAll (a .terms) (r .fact .numbers) (known .bindings)) _ (agreeAll-small (a .terms) (r .fact .numbers) (known .bindings) h small) (λ b k. k)))
+    atoms
 
 -- ---- the board's rows
 

@@ -15,7 +15,8 @@ use Rattle.meaning.specs.Firing.{Work, Firing}
 use Rattle.meaning.specs.Words.{Cursors, cursorCount}
 use Rattle.meaning.specs.Translation.{boundBy, testWords, bodyWords, bodyLength}
 use Rattle.meaning.specs.WellFormed.{GoodTest, GoodAtom, GoodBoard, anyVariable}
-use Rattle.agreement.specs.Leads.{cases, Machine, Leads, within, go, At}
+use Rattle.agreement.specs.Tools.{cases}
+use Rattle.agreement.specs.Leads.{Machine, Leads, within, go, At}
 use Rattle.agreement.specs.Registers.{Loaded, Extends, test-agrees}
 use Rattle.agreement.specs.Cursors.{Same, Ready, ready-all}
 use Rattle.agreement.specs.Choices.{fitFrom, firstFit-rows, fitFrom-none, fitFrom-some}

@@ -12,7 +12,7 @@ use Rattle.meaning.specs.Basics.{change}
 use Rattle.meaning.specs.Rules.{Values}
 use Rattle.meaning.specs.Fit.{Marks, Bindings, Known, takeRow}
 use Rattle.meaning.specs.Words.{Cursor, on, Cursors, cursorCount, holdsRow, heldBy}
-use Rattle.agreement.specs.Leads.{cases}
+use Rattle.agreement.specs.Tools.{cases}
 use Rattle.agreement.specs.Registers.{Loaded}
 
 -- ---- one changed place

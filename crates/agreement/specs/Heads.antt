@@ -17,7 +17,8 @@ use Rattle.meaning.specs.Firing.{Work, headFact, headFacts, taken, Firing, full
 use Rattle.meaning.specs.Words.{KEEP, Cursors, cursorCount, held, state, madeHasRoom, setNumber, onLast}
 use Rattle.meaning.specs.Translation.{argWords, headWords, headLength}
 use Rattle.meaning.specs.WellFormed.{GoodTerm, GoodAtom}
-use Rattle.agreement.specs.Leads.{cases, Machine, Leads, within, go, stop, At, halves}
+use Rattle.agreement.specs.Tools.{cases}
+use Rattle.agreement.specs.Leads.{Machine, Leads, within, go, stop, At, halves}
 use Rattle.agreement.specs.Lengths.{length-argWords}
 use Rattle.agreement.specs.Registers.{Loaded, value-agrees}
 use Rattle.agreement.specs.Cursors.{Ready}

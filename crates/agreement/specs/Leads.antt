@@ -4,7 +4,6 @@ use mathlib.Core.Path.{_≡_, refl, ap}
 use Prim.Native.Nat.{ℕ, zero, suc, _+_, _≤_}
 use native.Mathlib.Nat.{add-zero}
 use native.Mathlib.Omega.{arith}
-use mathlib.Core.Bool.{Bool, true, false}
 use mathlib.Core.Option.{some}
 use mathlib.Core.List.{List, [], _∷_, _++_}
 use lib.ListN.{length, getElem?}
@@ -14,22 +13,17 @@ use Rattle.meaning.specs.Facts.{Kind, Board}
 use Rattle.meaning.specs.Firing.{Firing, done, spent}
 use Rattle.meaning.specs.Words.{Word, State, going, ends, execute, executeAt, step, attemptFrom}
 
--- a flag's two cases, with the equation
-pub cases {ℓ} : {X : Type ℓ} (t : Bool) → (t ≡ true → X) → (t ≡ false → X) → X
-cases true yes′ no′ = yes′ refl
-cases false yes′ no′ = no′ refl
-
 -- a strip at work on a board
 pub record Machine : Type 0 where
   pub words : List Word
   pub kinds : List Kind
   pub board : Board
 
--- From this state the attempt ends with the firing, after some number of steps within the bound: an allowance of so many is enough, and with
+-- From this state the attempt ends with the firing, after some number of steps within the limit: an allowance of so many is enough, and with
 -- less it is spent.
-pub record Leads (m : Machine) (bound : ℕ) (s : State) (firing : Firing) : Type 0 where
+pub record Leads (m : Machine) (limit : ℕ) (s : State) (firing : Firing) : Type 0 where
   pub steps : ℕ
-  pub few : steps ≤ bound
+  pub few : steps ≤ limit
   pub result : (allowance : ℕ) → attemptFrom (m .words) (m .kinds) (m .board) allowance s ≡ (if leb steps allowance then done firing else spent)
 
 pub within : {m : Machine} {n k : ℕ} {s : State} {f : Firing} → n ≤ k → Leads m n s f → Leads m k s f

@@ -1,4 +1,4 @@
-pub mod Lists
+pub mod Tools
 pub mod Leads
 pub mod Registers
 pub mod Cursors

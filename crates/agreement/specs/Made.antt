@@ -12,7 +12,7 @@ use Rattle.meaning.specs.Basics.{if_then_else_}
 use Rattle.meaning.specs.Facts.{Kind, Fact, Board, mostCards, mostNotices, isCard}
 use Rattle.meaning.specs.Firing.{Work, unusedRows, ofClass, boardAfter, hasRoom, settle, full}
 use Rattle.meaning.specs.Words.{madeHasRoom}
-use Rattle.agreement.specs.Leads.{cases}
+use Rattle.agreement.specs.Tools.{cases}
 
 -- is the fact of the class
 abbrev pub isOf : List Kind → Bool → Fact → Bool

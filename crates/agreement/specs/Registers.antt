@@ -2,7 +2,6 @@
 -- exactly those. A register whose variable has no value may hold anything.
 use mathlib.Core.Path.{_≡_, refl, sym, ap, _∙_}
 use Prim.Native.Nat.{ℕ}
-use native.Mathlib.Omega.{arith}
 use mathlib.Core.Bool.{Bool, true, false, false≢true}
 use mathlib.Core.Option.{Option, none, some}
 use mathlib.Core.List.{List, [], _∷_, map}
@@ -12,12 +11,7 @@ use Rattle.meaning.specs.Basics.{change, mem}
 use Rattle.meaning.specs.Rules.{Term, constant, variable, Test, Values, valueOf, holds}
 use Rattle.meaning.specs.Fit.{Bindings, lookup, valuesOf, Under}
 use Rattle.meaning.specs.WellFormed.{GoodTerm, GoodTest}
-use Rattle.agreement.specs.Leads.{cases}
-
--- an answer's two cases, with the equation
-pub options {ℓ} : {X : Type ℓ} {A : Type 0} (o : Option A) → (o ≡ none → X) → ((a : A) → o ≡ some a → X) → X
-options none nothing something = nothing refl
-options (some a) nothing something = something a refl
+use Rattle.agreement.specs.Tools.{cases, options, impossible}
 
 abbrev pub names : Bindings → List ℕ
 names bindings = map (λ b. b .name) bindings
@@ -48,7 +42,7 @@ under-store bindings values x n u y v h = cases (eqb y x) (λ q. rw q (let r : s
 under-new : (bindings : Bindings) (values : Values) (x n : ℕ) → lookup x bindings ≡ none → Under (record { name = x; value = n } ∷ bindings) values → Under bindings values
 under-new bindings values x n new u y v h =
     cases (eqb y x)
-    (λ q. let z : _≡_ {A = ℕ} 0 1 = cc (ap (λ (i : ℕ). lookup i bindings) (eqb-true y x q)) in absurd (omega arith))
+    (λ q. impossible (cc (ap (λ (i : ℕ). lookup i bindings) (eqb-true y x q))))
     (λ q. u y v (rw q h))
 
 pub extends-new : {bindings : Bindings} {bound : List ℕ} (x n : ℕ) → lookup x bindings ≡ none → names bindings ≡ bound

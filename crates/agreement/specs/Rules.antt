@@ -18,9 +18,10 @@ use Rattle.meaning.specs.Firing.{Work, taken, takeIfFits, runSweep, runSweeps, 
 use Rattle.meaning.specs.Words.{KEEP, JUMP, FIRE, Cursors, cursorCount}
 use Rattle.meaning.specs.Translation.{boundByTerm, boundByTerms, boundBy, bodyWords, bodyLength, headWords, headLength, resume, sweepWords, sweepLength, sweepsWords, sweepsLength, ruleWords, ruleLength, rulesWords}
 use Rattle.meaning.specs.WellFormed.{GoodAtom, GoodGroup, GoodSweep, GoodRule, GoodBoard}
-use Rattle.agreement.specs.Leads.{cases, Machine, Leads, within, go, stop, At, halves}
+use Rattle.agreement.specs.Tools.{cases, options}
+use Rattle.agreement.specs.Leads.{Machine, Leads, within, go, stop, At, halves}
 use Rattle.agreement.specs.Lengths.{length-bodyWords, length-headWords, length-sweepWords, length-sweepsWords, length-ruleWords}
-use Rattle.agreement.specs.Registers.{options, Loaded}
+use Rattle.agreement.specs.Registers.{Loaded}
 use Rattle.agreement.specs.Cursors.{Idle, Ready, ready-idle, idle-ready}
 use Rattle.agreement.specs.Choices.{Taking, knows, sweepAll}
 use Rattle.agreement.specs.Made.{room-less, overfull-settles}

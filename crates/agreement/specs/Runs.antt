@@ -1,7 +1,7 @@
 -- Demand 3: a translated strip's run is the book's run, cut short at the first attempt that takes more steps than allowed.
 use mathlib.Core.Path.{_≡_, refl, sym, ap, _∙_}
 use mathlib.Core.Logic.{_↔_, _⊎_, inl, inr, ⊎-elim}
-use Prim.Native.Nat.{ℕ, zero, suc, _+_, _<_}
+use Prim.Native.Nat.{ℕ, zero, suc, _+_, _^_, _≤_, _<_}
 use native.Mathlib.Nat.{add-zero, zero-add, add-suc, suc-add}
 use native.Mathlib.Omega.{arith}
 use mathlib.Core.Bool.{Bool, true, false, false≢true}
@@ -13,8 +13,9 @@ use Rattle.meaning.specs.Firing.{Firing, quiet, full, fired, fire, Attempt, don
 use Rattle.meaning.specs.Words.{attempt, runStrip}
 use Rattle.meaning.specs.Translation.{translate}
 use Rattle.meaning.specs.WellFormed.{GoodBook, GoodBoard}
-use Rattle.agreement.specs.Leads.{cases}
+use Rattle.agreement.specs.Tools.{cases, impossible}
 use Rattle.agreement.specs.Attempts.{attempt-takes, attempt-done}
+use Rattle.agreement.specs.Bound.{attempt-allowed}
 use Rattle.agreement.specs.Boards.{fire-good}
 
 -- a firing's three cases, with the equation
@@ -70,8 +71,8 @@ module _ (over : Board → Bool) (firing : Board → Firing) where
   short-spent (suc m) (suc left) board firings rule few e cut =
       cases (over board) (λ y. rw y)
       (λ y. firings-cases (firing board)
-      (λ q. let z : Quiet ≡ Limit = rw q at e in let o : _≡_ {A = ℕ} 0 1 = cc in absurd (omega arith))
-      (λ q. let z : Full ≡ Limit = rw q at e in let o : _≡_ {A = ℕ} 0 1 = cc in absurd (omega arith))
+      (λ q. impossible (cc (rw q at e)))
+      (λ q. impossible (cc (rw q at e)))
       (λ rule′ board′ q. rw (y, q) (short-spent m left board′ (suc firings) rule′ (omega arith) (rw q at e) (rw q at cut))))
 
   -- the whole run is never spent or stuck
@@ -88,24 +89,37 @@ module _ (over : Board → Bool) (firing : Board → Firing) where
   whole-plain (suc left) board firings rule =
       firings-cases (firing board) (λ q. rw q tt) (λ q. rw q tt) (λ rule′ board′ q. rw q (whole-plain left board′ (suc firings) rule′))
 
--- runs whose attempts are equal on the boards that they come to
-repeat-same : (P : Board → Type 0) (look look′ : Board → Attempt) → ((board : Board) → P board → look board ≡ look′ board)
-    → ((board : Board) (rule : ℕ) (board′ : Board) → P board → look board ≡ done (fired rule board′) → P board′)
+-- two ways to go on from one attempt are related if they are where it fires
+go-on : (R : Ran → Ran → Type 0) (a : Attempt) (board : Board) (firings rule : ℕ) (next next′ : ℕ → Board → Ran)
+    → ((end : End) → R (ended end board firings rule) (ended end board firings rule))
+    → ((rule′ : ℕ) (board′ : Board) → a ≡ done (fired rule′ board′) → R (next rule′ board′) (next′ rule′ board′))
+    → R (goOn a board firings rule next) (goOn a board firings rule next′)
+go-on R (done quiet) board firings rule next next′ here later = here Quiet
+go-on R (done full) board firings rule next next′ here later = here Full
+go-on R (done (fired rule′ board′)) board firings rule next next′ here later = later rule′ board′ refl
+go-on R spent board firings rule next next′ here later = here Spent
+go-on R stuck board firings rule next next′ here later = here Stuck
+
+-- what holds of the board holds of the board after a firing
+abbrev Keeps : (Board → Type 0) → (Board → Attempt) → Type 0
+Keeps P look = (board : Board) (rule : ℕ) (board′ : Board) → P board → look board ≡ done (fired rule board′) → P board′
+
+-- runs whose attempts are equal on the boards that they come to are equal
+repeat-same : (P : Board → Type 0) (look look′ : Board → Attempt) → ((board : Board) → P board → look board ≡ look′ board) → Keeps P look
     → (limit : ℕ) (board : Board) (firings rule : ℕ) → P board → repeat look limit board firings rule ≡ repeat look′ limit board firings rule
 unfolding repeat
 repeat-same P look look′ same keeps zero board firings rule p = refl
 repeat-same P look look′ same keeps (suc left) board firings rule p =
-    rw (← (same board p)) (go (look board) refl (λ board′ rule′ q. repeat-same P look look′ same keeps left board′ (suc firings) rule′ q))
-  where
-    go : (a : Attempt) → look board ≡ a
-        → ((board′ : Board) (rule′ : ℕ) → P board′ → repeat look left board′ (suc firings) rule′ ≡ repeat look′ left board′ (suc firings) rule′)
-        → goOn a board firings rule (λ rule′ board′. repeat look left board′ (suc firings) rule′)
-        ≡ goOn a board firings rule (λ rule′ board′. repeat look′ left board′ (suc firings) rule′)
-    go (done quiet) e rest = refl
-    go (done full) e rest = refl
-    go (done (fired rule′ board′)) e rest = rest board′ rule′ (keeps board rule′ board′ p e)
-    go spent e rest = refl
-    go stuck e rest = refl
+    rw (← (same board p))
+    (go-on _≡_ (look board) board firings rule _ _ (λ end. refl) (λ rule′ board′ e. repeat-same P look look′ same keeps left board′ (suc firings) rule′ (keeps board rule′ board′ p e)))
+
+repeat-keeps : (P : Board → Type 0) (look : Board → Attempt) → Keeps P look → (limit : ℕ) (board : Board) (firings rule : ℕ) → P board
+    → P (repeat look limit board firings rule .board)
+unfolding repeat
+repeat-keeps P look keeps zero board firings rule p = p
+repeat-keeps P look keeps (suc left) board firings rule p =
+    go-on (λ ran _. P (ran .board)) (look board) board firings rule _ (λ rule′ board′. ended Quiet board′ 0 rule′) (λ end. p)
+    (λ rule′ board′ e. repeat-keeps P look keeps left board′ (suc firings) rule′ (keeps board rule′ board′ p e))
 
 -- ---- the runs of a book and of its strip
 
@@ -134,12 +148,13 @@ module _ {book : Book} {board : Board} (good : GoodBook book) (board-good : Good
   abbrev ran : Ran
   ran = runStrip (translate book) limit allowance board
 
+  keeps : Keeps (GoodBoard (book .kinds)) (attempt (translate book) allowance)
+  keeps b rule b′ g e = fire-good good g (attempt-done good g allowance e)
+
   -- the strip's run is the book's, with each attempt that takes more steps than allowed spent
   pub run-is : ran ≡ repeat (fireWithin book allowance) limit board 0 noRule
   unfolding runStrip
-  run-is =
-      repeat-same (GoodBoard (book .kinds)) (attempt (translate book) allowance) (fireWithin book allowance) (λ b g. attempt-is good g allowance)
-      (λ b rule b′ g e. fire-good good g (attempt-done good g allowance e)) limit board 0 noRule board-good
+  run-is = repeat-same (GoodBoard (book .kinds)) _ (fireWithin book allowance) (λ b g. attempt-is good g allowance) keeps limit board 0 noRule board-good
 
   short-or-run : (ran ≡ run book limit board) ⊎ Stopped (λ b. isSpent (attempt (translate book) allowance b)) (fire book) limit board 0 noRule
   unfolding run
@@ -178,4 +193,20 @@ module _ {book : Book} {board : Board} (good : GoodBook book) (board-good : Good
   pub run-not-stuck : ran .end ≡ Stuck → ⊥
   run-not-stuck h =
       ⊎-elim (λ e. plain Stuck e h)
-      (λ s. let e : Spent ≡ Stuck = sym (ap (λ r. r .end) (run-is ∙ s .after)) ∙ h in let o : _≡_ {A = ℕ} 0 1 = cc in omega arith) short-or-run
+      (λ s. impossible (cc (ap (λ r. r .end) (run-is ∙ s .after)))) short-or-run
+
+  -- "Prove that for every accepted book and board a translated strip ends an attempt within 2 to the power 60 steps, so that with that allowance
+  -- SPENT never comes" (order 9): the strip's run is then the book's.
+  pub run-allowed : 2 ^ 60 ≤ allowance → ran ≡ run book limit board
+  unfolding runStrip run
+  run-allowed h = repeat-same (GoodBoard (book .kinds)) _ (λ b. done (fire book b)) (λ b g. attempt-allowed good g allowance h) keeps limit board 0 noRule board-good
+
+  -- the boards that runs end with are well formed
+  pub strip-run-good : GoodBoard (book .kinds) (ran .board)
+  unfolding runStrip
+  strip-run-good = repeat-keeps (GoodBoard (book .kinds)) _ keeps limit board 0 noRule board-good
+
+pub run-good : {book : Book} {board : Board} → GoodBook book → GoodBoard (book .kinds) board → (limit : ℕ) → GoodBoard (book .kinds) (run book limit board .board)
+unfolding run
+run-good {book} {board} good board-good limit =
+    repeat-keeps (GoodBoard (book .kinds)) (λ b. done (fire book b)) (λ b rule b′ g e. fire-good {number = rule} good g (cc)) limit board 0 noRule board-good

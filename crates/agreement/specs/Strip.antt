@@ -1,19 +1,19 @@
 -- The translated strip: it declares the book's kinds, ends with QUIET and, for a well-formed book, is a well-formed strip of at most 44,808
 -- bytes. Its parts are gone through once for the fields of their words and once for their lengths.
 use mathlib.Core.Path.{_≡_, refl, sym, ap, _∙_}
+use mathlib.Core.Logic.{_↔_}
 use Prim.Native.Nat.{ℕ, suc, _+_, _*_, _≤_, _<_}
 use native.Mathlib.Omega.{arith}
 use mathlib.Core.Bool.{Bool}
 use mathlib.Core.List.{List, [], _∷_, _++_, map, append-assoc}
 use lib.ListN.{length, length-append, length-map}
 use Rattle.meaning.specs.Basics.{mem, All}
-use Rattle.meaning.specs.Facts.{Kind, mostRules, mostInRule, mostInSweep, mostNumbers, isCard}
+use Rattle.meaning.specs.Facts.{Kind, Board, mostRules, mostInRule, mostInSweep, mostNumbers, isCard}
 use Rattle.meaning.specs.Rules.{Term, constant, variable, Atom, Test, Sweep, Rule, Book}
 use Rattle.meaning.specs.Words.{Word, KEEP, QUIET, cursorCount, stripKinds}
 use Rattle.meaning.specs.Translation.{boundByTerms, boundBy, argumentWords, testWords, bodyWords, bodyLength, argWords, headWords, headLength, resume, sweepWords, sweepLength, sweepsWords, sweepsLength, ruleWords, ruleLength, rulesWords, kindWord, translate}
-use Rattle.meaning.specs.WellFormed.{GoodKind, GoodTerm, anyVariable, GoodAtom, GoodTest, GoodSweep, GoodRule, GoodBook, GoodWord, EndsWell, GoodStrip}
-use Rattle.agreement.specs.Lists.{all-append}
-use Rattle.agreement.specs.Leads.{cases}
+use Rattle.meaning.specs.WellFormed.{GoodBoard, GoodKind, GoodTerm, anyVariable, GoodAtom, GoodTest, GoodSweep, GoodRule, GoodBook, GoodWord, EndsWell, GoodStrip}
+use Rattle.agreement.specs.Tools.{all-append, cases}
 use Rattle.agreement.specs.Sizes.{terms-most, rules-most}
 use Rattle.agreement.specs.Lengths.{length-ruleWords}
 
@@ -39,6 +39,10 @@ kinds-first (k ∷ kinds) words h = ap (λ l. k ∷ l) (kinds-first kinds words 
 pub translate-kinds : (book : Book) → stripKinds (translate book) ≡ book .kinds
 unfolding translate
 translate-kinds book = kinds-first (book .kinds) _ (rules-kinds (book .kinds) 0 (length (book .kinds)) (book .rules))
+
+-- a board is well formed for the strip's kinds exactly if it is for the book's
+pub translate-boards : (book : Book) (board : Board) → GoodBoard (stripKinds (translate book)) board ↔ GoodBoard (book .kinds) board
+translate-boards book board = ((λ h. rw (translate-kinds book) at h), λ h. rw (translate-kinds book) h)
 
 -- ---- the last word
 

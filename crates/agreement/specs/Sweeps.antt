@@ -16,7 +16,8 @@ use Rattle.meaning.specs.Firing.{Work, Firing}
 use Rattle.meaning.specs.Words.{Cursors, cursorCount}
 use Rattle.meaning.specs.Translation.{boundBy, boundByTerms, bodyWords, bodyLength, resume}
 use Rattle.meaning.specs.WellFormed.{GoodTest, GoodAtom, GoodBoard, anyVariable}
-use Rattle.agreement.specs.Leads.{cases, Machine, Leads, within, At}
+use Rattle.agreement.specs.Tools.{cases}
+use Rattle.agreement.specs.Leads.{Machine, Leads, within, At}
 use Rattle.agreement.specs.Cursors.{Idle, Ready, ready-idle, idle-ready}
 use Rattle.agreement.specs.Choices.{Taking, knows, sweepAll, sweepFrom, sweepAll-rows, sweepFrom-none, sweepFrom-card, notice-keeps, sweepFrom-notice, sweepFrom-last}
 use Rattle.agreement.specs.Atoms.{stand, body-halves, body-exit, Rows, atom-rows}
