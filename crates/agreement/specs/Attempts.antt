@@ -4,13 +4,13 @@ use mathlib.Core.Path.{_≡_, refl, sym, _∙_}
 use Prim.Native.Nat.{ℕ, suc, _≤_, _<_}
 use native.Mathlib.Omega.{arith}
 use mathlib.Core.Bool.{false≢true}
-use mathlib.Core.Logic.{_↔_}
+use mathlib.Core.Logic.{_↔_, _⊎_, inl, inr, ⊎-elim}
 use mathlib.Core.Option.{some}
 use mathlib.Core.List.{List, [], _∷_, _++_, map}
 use lib.ListN.{length, getElem?, length-append, length-map}
 use lib.Seq.{append-snoc}
 use lib.Dec.{leb}
-use borrow.Author.Tests.{leb-false, lt-leb}
+use borrow.Author.Tests.{leb-true, leb-false, lt-leb}
 use Rattle.meaning.specs.Basics.{if_then_else_}
 use Rattle.meaning.specs.Facts.{Kind, Board}
 use Rattle.meaning.specs.Rules.{Book}
@@ -63,27 +63,34 @@ attempt-takes {book} good board-good =
     (leads .steps, leads .few, λ allowance. rw (translate-kinds book) (leads .result allowance))
 
 -- "It reports that exactly when one attempt at a firing takes more steps than allowed."
-pub attempt-spent : (book : Book) (board : Board) (steps : ℕ) → Takes book board steps → (allowance : ℕ) → (attempt (translate book) allowance board ≡ spent) ↔ (allowance < steps)
-attempt-spent book board steps takes allowance = (
+pub attempt-spent-iff : (book : Book) (board : Board) (steps : ℕ) → Takes book board steps → (allowance : ℕ) → (attempt (translate book) allowance board ≡ spent) ↔ (allowance < steps)
+attempt-spent-iff book board steps takes allowance = (
   λ h. cases (leb steps allowance)
       (λ y. impossible (cc (rw y at (takes allowance))))
       (λ y. leb-false steps allowance y),
   λ h. rw (lt-leb steps allowance h) at (takes allowance),
 )
 
--- "ends with the answer and board of demand 2": what an attempt is done with is the book's firing.
+takes-le : (book : Book) (board : Board) (n n′ : ℕ) → Takes book board n → Takes book board n′ → n ≤ n′
+takes-le book board n n′ takes takes′ =
+    cases (leb n n′) (leb-true n n′)
+    (λ y. absurd (omega (arith, attempt-spent-iff book board n′ takes′ n′ .0 (attempt-spent-iff book board n takes n′ .1 (leb-false n n′ y)))))
+
+-- there is one such number of steps
+pub takes-unique : (book : Book) (board : Board) (n n′ : ℕ) → Takes book board n → Takes book board n′ → n ≡ n′
+takes-unique book board n n′ takes takes′ = omega (arith, takes-le book board n n′ takes takes′, takes-le book board n′ n takes′ takes)
+
+-- "ends with the answer and board of demand 2, unless it reports the allowance spent": one attempt is the book's firing, or spent.
+pub attempt-done-or-spent : {book : Book} {board : Board} → GoodBook book → GoodBoard (book .kinds) board → (allowance : ℕ)
+    → (attempt (translate book) allowance board ≡ done (fire book board)) ⊎ (attempt (translate book) allowance board ≡ spent)
+attempt-done-or-spent good board-good allowance =
+    let takes = attempt-takes good board-good in
+    cases (leb (takes .0) allowance) (λ y. inl (rw y at (takes .2 allowance))) (λ y. inr (rw y at (takes .2 allowance)))
+
 pub attempt-done : {book : Book} {board : Board} {firing : Firing} → GoodBook book → GoodBoard (book .kinds) board → (allowance : ℕ)
     → attempt (translate book) allowance board ≡ done firing → fire book board ≡ firing
-attempt-done {book} {board} {firing} good board-good allowance h =
-    let takes = attempt-takes good board-good in
-    cases (leb (takes .0) allowance)
-    (λ y. cc (rw y at (takes .2 allowance)))
-    (λ y. impossible (cc (rw y at (takes .2 allowance))))
+attempt-done good board-good allowance h = ⊎-elim (λ e. cc) (λ e. impossible (cc)) (attempt-done-or-spent good board-good allowance)
 
 -- "a translated strip is never stuck"
 pub attempt-not-stuck : {book : Book} {board : Board} → GoodBook book → GoodBoard (book .kinds) board → (allowance : ℕ) → attempt (translate book) allowance board ≡ stuck → ⊥
-attempt-not-stuck {book} {board} good board-good allowance h =
-    let takes = attempt-takes good board-good in
-    cases (leb (takes .0) allowance)
-    (λ y. impossible (cc (rw y at (takes .2 allowance))))
-    (λ y. impossible (cc (rw y at (takes .2 allowance))))
+attempt-not-stuck good board-good allowance h = ⊎-elim (λ e. impossible (cc)) (λ e. impossible (cc)) (attempt-done-or-spent good board-good allowance)

@@ -213,7 +213,7 @@ rules-leave {kinds} {board} good number (rule ∷ more) rules-good =
     (firstFit-small good (rule .body) (rule .tests))
 
 -- "The board that a run writes is accepted by the reader of its book": a firing of a well-formed book on a well-formed board leaves such a board.
-pub fire-good : {book : Book} {board board′ : Board} {number : ℕ} → GoodBook book → GoodBoard (book .kinds) board → fire book board ≡ fired number board′
+pub fire-keeps-good : {book : Book} {board board′ : Board} {number : ℕ} → GoodBook book → GoodBoard (book .kinds) board → fire book board ≡ fired number board′
     → GoodBoard (book .kinds) board′
 unfolding fire
-fire-good {book} good board-good e = rw e at (rules-leave board-good 0 (book .rules) (good .rules))
+fire-keeps-good {book} good board-good e = rw e at (rules-leave board-good 0 (book .rules) (good .rules))

@@ -15,4 +15,5 @@ pub mod Strip
 pub mod Attempts
 pub mod Bound
 pub mod Boards
+pub mod Repeats
 pub mod Runs

@@ -41,8 +41,8 @@ unfolding translate
 translate-kinds book = kinds-first (book .kinds) _ (rules-kinds (book .kinds) 0 (length (book .kinds)) (book .rules))
 
 -- a board is well formed for the strip's kinds exactly if it is for the book's
-pub translate-boards : (book : Book) (board : Board) → GoodBoard (stripKinds (translate book)) board ↔ GoodBoard (book .kinds) board
-translate-boards book board = ((λ h. rw (translate-kinds book) at h), λ h. rw (translate-kinds book) h)
+pub translate-same-boards : (book : Book) (board : Board) → GoodBoard (stripKinds (translate book)) board ↔ GoodBoard (book .kinds) board
+translate-same-boards book board = ((λ h. rw (translate-kinds book) at h), λ h. rw (translate-kinds book) h)
 
 -- ---- the last word
 
