@@ -28,13 +28,17 @@ use Rattle.agreement.specs.Cursors.{change-same, Same, same-change, Read
 abbrev pub stand : ℕ → Values → Cursors → Work → State
 stand at values cursors work = state at values cursors (work .used) (work .made)
 
+-- the words go on where the numbers agree, with the registers loaded
+abbrev Agrees : Machine → Cursors → Work → Bindings → List ℕ → Option Bindings → List ℕ → ℕ → ℕ → Firing → Type 0
+Agrees m cursors work bindings bound o bound′ p limit f =
+    (b : Bindings) (v : Values) → o ≡ some b → Extends bindings bound b bound′ → Loaded b bound′ v → Leads m limit (stand p v cursors work) f
+
 module _ {m : Machine} {cursors : Cursors} {work : Work} where
   -- one argument's word: to the target if the number does not agree with the term, else to the next word
   argument : (c i n : ℕ) {p seek limit : ℕ} {f : Firing} {values : Values} {bindings : Bindings} {bound : List ℕ} (t : Term)
       → Loaded bindings bound values → getElem? (m .words) p ≡ some (argumentWord c i seek bound t) → argumentUnder (m .board) (cursors c) i ≡ some n
       → (differs : agree t n bindings ≡ none → Leads m limit (stand seek values cursors work) f)
-      → (agrees : (b : Bindings) (v : Values) → agree t n bindings ≡ some b → Extends bindings bound b (boundByTerm t bound) → Loaded b (boundByTerm t bound) v
-      → Leads m limit (stand (suc p) v cursors work) f)
+      → (agrees : Agrees m cursors work bindings bound (agree t n bindings) (boundByTerm t bound) (suc p) limit f)
       → Leads m (suc limit) (stand p values cursors work) f
   argument c i n {values} {bindings} (constant v) l w row differs agrees =
       cases (eqb n v)
@@ -57,8 +61,7 @@ module _ {m : Machine} {cursors : Cursors} {work : Work} where
       → (terms : List Term) (numbers : List ℕ) (i p : ℕ) {values : Values} {bindings : Bindings} {bound : List ℕ} → length numbers ≡ length terms
       → drop i (row .numbers) ≡ numbers → Loaded bindings bound values → At m p (argumentWords c i seek bound terms)
       → (differs : agreeAll terms numbers bindings ≡ none → (v : Values) → Loaded bindings bound v → Leads m limit (stand seek v cursors work) f)
-      → (agrees : (b : Bindings) (v : Values) → agreeAll terms numbers bindings ≡ some b → Extends bindings bound b (boundByTerms terms bound)
-      → Loaded b (boundByTerms terms bound) v → Leads m limit (stand (p + length terms) v cursors work) f)
+      → (agrees : Agrees m cursors work bindings bound (agreeAll terms numbers bindings) (boundByTerms terms bound) (p + length terms) limit f)
       → Leads m (length terms + limit) (stand p values cursors work) f
   unfolding agreeAll argumentWords boundByTerms
   arguments c row? [] [] i p {values} {bindings} ln dr l w differs agrees = within (omega arith) (rw add-zero at (agrees bindings values refl (λ v l′. l′) l))
@@ -90,21 +93,34 @@ body-exit p a atoms tests = omega arith
 
 -- What is to come of an atom's rows, and how it comes. X says what has been done before a row: `work` and `known` are what it did and what it
 -- leaves known, `after` is what comes of it and of the rows from there on.
-pub record Rows {X : Type 0} (m : Machine) (a : Atom) (c p back : ℕ) (bound : List ℕ) (before : Cursors)
-    (work : X → Work) (known : X → Known) (after : X → List Row → Firing) (K N : ℕ) : Type 0 where
-  -- a row that does not fit changes nothing
-  pub skips : (x : X) (r : Row) (rest : List Row) → fitRow (m .kinds) a r (known x) ≡ none → after x (r ∷ rest) ≡ after x rest
-  -- behind the last row the words go back
-  pub none-left : (x : X) (values : Values) (cursors : Cursors) → Ready c c before bound (known x) values cursors (work x .used)
-      → Leads m N (stand back values cursors (work x)) (after x [])
-  -- with a row that fits they come to the words behind the atom; those may give up and come back to SEEK, or come back with more done
-  pub fits : (x : X) (r : Row) (rest : List Row) (known′ : Known) (values : Values) (cursors : Cursors) (M : ℕ) → N ≤ M
-      → fitRow (m .kinds) a r (known x) ≡ some known′ → let bound′ : List ℕ = boundByTerms (a .terms) bound in
-      Extends (known x .bindings) bound (known′ .bindings) bound′ → Same c before cursors → Ready (suc c) (suc c) cursors bound′ known′ values cursors (work x .used)
-      → (gives-up : (v : Values) (cu : Cursors) → Ready (suc c) (suc c) cursors bound′ known′ v cu (work x .used) → Leads m M (stand (suc p) v cu (work x)) (after x rest))
-      → (again : (x′ : X) (v : Values) (cu : Cursors) → Ready c (suc c) before bound (known x′) v cu (work x′ .used) → cu c ≡ cursors c
-      → Leads m M (stand (suc p) v cu (work x′)) (after x′ rest))
-      → Leads m (K + M) (stand (suc (suc p) + length (a .terms)) values cursors (work x)) (after x (r ∷ rest))
+module _ {X : Type 0} (m : Machine) (a : Atom) (c p back : ℕ) (bound : List ℕ) (before : Cursors)
+    (work : X → Work) (known : X → Known) (after : X → List Row → Firing) where
+  -- at the atom's SEEK, wherever its cursor stands
+  abbrev pub Seeking : X → Values → Cursors → Type 0
+  Seeking x values cursors = Ready c (suc c) before bound (known x) values cursors (work x .used)
+
+  -- behind the atom, with a row that fits
+  abbrev pub Behind : X → Cursors → Known → Values → Cursors → Type 0
+  Behind x cursors known′ v cu = Ready (suc c) (suc c) cursors (boundByTerms (a .terms) bound) known′ v cu (work x .used)
+
+  -- the words behind give up, and the next row is sought
+  abbrev pub GivesUp : X → Cursors → Known → List Row → ℕ → Type 0
+  GivesUp x cursors known′ rest M = (v : Values) (cu : Cursors) → Behind x cursors known′ v cu → Leads m M (stand (suc p) v cu (work x)) (after x rest)
+
+  -- the words behind come back with more done, and the next row is sought
+  abbrev pub Again : Cursors → List Row → ℕ → Type 0
+  Again cursors rest M = (x : X) (v : Values) (cu : Cursors) → Seeking x v cu → cu c ≡ cursors c → Leads m M (stand (suc p) v cu (work x)) (after x rest)
+
+  pub record Rows (K N : ℕ) : Type 0 where
+    -- a row that does not fit changes nothing
+    pub skips : (x : X) (r : Row) (rest : List Row) → fitRow (m .kinds) a r (known x) ≡ none → after x (r ∷ rest) ≡ after x rest
+    -- behind the last row the words go back
+    pub none-left : (x : X) (v : Values) (cu : Cursors) → Ready c c before bound (known x) v cu (work x .used) → Leads m N (stand back v cu (work x)) (after x [])
+    -- with a row that fits they come to the words behind the atom
+    pub fits : (x : X) (r : Row) (rest : List Row) (known′ : Known) (v : Values) (cu : Cursors) (M : ℕ) → N ≤ M → fitRow (m .kinds) a r (known x) ≡ some known′
+        → Extends (known x .bindings) bound (known′ .bindings) (boundByTerms (a .terms) bound) → Same c before cu → Behind x cu known′ v cu
+        → GivesUp x cu known′ rest M → Again cu rest M
+        → Leads m (K + M) (stand (suc (suc p) + length (a .terms)) v cu (work x)) (after x (r ∷ rest))
 
 -- the board's rows have as many numbers as their kinds say
 row-arity : {kinds : List Kind} {board : Board} → GoodBoard kinds board → (class : Bool) (n : ℕ) (f : Fact) → getElem? (rowsOf board class) n ≡ some f
@@ -127,47 +143,53 @@ module _ {X : Type 0} {m : Machine} (good : GoodBoard (m .kinds) (m .board)) (a 
   abbrev willDo : X → ℕ → Fact → Bool
   willDo x = mayStand (m .kinds) (a .kind) (known x .gone)
 
-  abbrev Seeking : X → Values → Cursors → Type 0
-  Seeking x values cursors = Ready c (suc c) before bound (known x) values cursors (work x .used)
+  abbrev Seeks : X → Values → Cursors → Type 0
+  Seeks = Seeking m a c p back bound before work known after
 
   -- the rows that SEEK may take are those that may stand for the atom
-  seeks : (x : X) (values : Values) (cursors : Cursors) → Seeking x values cursors → (o : Option ℕ) → seekFrom (willDo x) facts (cursors c) ≡ o
+  seeks : (x : X) (values : Values) (cursors : Cursors) → Seeks x values cursors → (o : Option ℕ) → seekFrom (willDo x) facts (cursors c) ≡ o
       → execute (m .kinds) (m .board) (SEEK c (a .kind) back) (stand (suc p) values cursors (work x))
       ≡ sought (m .kinds) (m .board) c (a .kind) back (stand (suc p) values cursors (work x)) o
   seeks x values cursors r o e =
-      let gone : goneFor (m .kinds) (m .board) c (stand (suc p) values cursors (work x)) ≡ known x .gone
-      = fun-ext (ready-all (ready-off r opened (λ row. refl)) (omega arith) .holding) in
+      let released = ready-all (ready-off r opened (λ row. refl)) (omega arith) in
+      let gone : goneFor (m .kinds) (m .board) c (stand (suc p) values cursors (work x)) ≡ known x .gone = fun-ext (released .holding) in
       rw (gone, e)
 
+  -- SEEK takes row n
+  takes-row : (M n : ℕ) (f : Fact) (fs : List Fact) (x : X) (values : Values) (cursors : Cursors) → N ≤ M → Seeks x values cursors
+      → seekFrom (willDo x) facts (cursors c) ≡ some n → drop n facts ≡ f ∷ fs → willDo x n f ≡ true
+      → Again m a c p back bound before work known after (change cursors c (on class n)) (numbered (suc n) fs) M
+      → Leads m (suc (length (a .terms) + (K + M))) (stand (suc p) values cursors (work x)) (after x (record { at = n; fact = f } ∷ numbered (suc n) fs))
+  takes-row M n f fs x values cursors enough r place dr y again =
+      let row : Row = record { at = n; fact = f } in
+      let rest : List Row = numbered (suc n) fs in
+      let moved : Cursors = change cursors c (on class n) in
+      let found = drop-at n facts f fs dr in
+      let long : length (f .numbers) ≡ length (a .terms) = row-arity good class n f found ∙ rw (stand-kind (m .kinds) (a .kind) (known x .gone) n f y) (sym arity) in
+      go (w .1 .0) (seeks x values cursors r (some n) place)
+      (arguments c {row = f} (rw (change-same cursors c (on class n)) found) (a .terms) (f .numbers) 0 (suc (suc p)) long refl (r .loaded) (w .1 .1)
+      (λ q v l. rw (rows .skips x row rest (rw (y, q))) (within (omega arith) (again x v moved (ready-move (omega arith) r (on class n) l) refl)))
+      (λ b v q ext l. let here = ready-move (omega arith) r (on class n) (ext v l) in
+      rows .fits x row rest (record { bindings = b; gone = takeRow class n (known x .gone) }) v moved M enough (rw (y, q)) ext (here .same) (ready-row r class n l)
+      (λ v′ cu r′. again x v′ cu (ready-back here (ext v′ (r′ .loaded)) (λ i h. r′ .same i (omega arith)) (r′ .idle)) (r′ .same c (omega arith))) again))
+
   -- the rows from n on
-  loop : (fs : List Fact) (n : ℕ) (x : X) (values : Values) (cursors : Cursors) → Seeking x values cursors
+  loop : (fs : List Fact) (n : ℕ) (x : X) (values : Values) (cursors : Cursors) → Seeks x values cursors
       → seekFrom (willDo x) facts (cursors c) ≡ nextRow (willDo x) n fs → drop n facts ≡ fs
       → Leads m (length fs * suc (length (a .terms) + K) + suc N) (stand (suc p) values cursors (work x)) (after x (numbered n fs))
   unfolding nextRow numbered
   loop [] n x values cursors r place dr =
       within (omega arith) (go (w .1 .0) (seeks x values cursors r none place) (rows .none-left x values (change cursors c past) (ready-off r past (λ row. refl))))
   loop (f ∷ fs) n x values cursors r place dr =
-      let row : Row = record { at = n; fact = f } in
-      let rest : List Row = numbered (suc n) fs in
-      let moved : Cursors = change cursors c (on class n) in
-      let M : ℕ = length fs * suc (length (a .terms) + K) + suc N in
       let dr′ : drop (suc n) facts ≡ fs = drop-suc n facts f fs dr in
-      let again : (x′ : X) (v : Values) (cu : Cursors) → Seeking x′ v cu → cu c ≡ moved c → Leads m M (stand (suc p) v cu (work x′)) (after x′ rest)
-      = λ x′ v cu r′ e. loop fs (suc n) x′ v cu r′ (rw (e, change-same cursors c (on class n), dr′)) dr′ in
       cases (willDo x n f)
-      (λ y. within {n = suc (length (a .terms) + (K + M))} (omega arith) (go (w .1 .0) (seeks x values cursors r (some n) (place ∙ rw y))
-      (arguments c {row = f} (rw (change-same cursors c (on class n)) (drop-at n facts f fs dr)) (a .terms) (f .numbers) 0 (suc (suc p))
-      (row-arity good class n f (drop-at n facts f fs dr) ∙ rw (stand-kind (m .kinds) (a .kind) (known x .gone) n f y) (sym arity)) refl (r .loaded) (w .1 .1)
-      (λ q v l. rw (rows .skips x row rest (rw (y, q))) (within (omega arith) (again x v moved (ready-move (omega arith) r (on class n) l) refl)))
-      (λ b v q ext l. rows .fits x row rest (record { bindings = b; gone = takeRow class n (known x .gone) }) v moved M (omega arith) (rw (y, q)) ext
-      (λ i h. same-change c cursors (on class n) i h ∙ r .same i h) (ready-row r class n l)
-      (λ v′ cu r′. again x v′ cu (ready-back (ready-move (omega arith) r (on class n) (ext v l)) (ext v′ (r′ .loaded)) (λ i h. r′ .same i (omega arith)) (r′ .idle)) (r′ .same c (omega arith)))
-      again))))
-      (λ y. rw (rows .skips x row rest (rw y)) (within (omega arith) (loop fs (suc n) x values cursors r (place ∙ rw y) dr′)))
+      (λ y. within (omega arith) (takes-row (length fs * suc (length (a .terms) + K) + suc N) n f fs x values cursors (omega arith) r (place ∙ rw y) dr y
+      (λ x′ v cu r′ e. loop fs (suc n) x′ v cu r′ (rw (e, change-same cursors c (on class n), dr′)) dr′)))
+      (λ y. rw (rows .skips x (record { at = n; fact = f }) (numbered (suc n) fs) (rw y)) (within (omega arith) (loop fs (suc n) x values cursors r (place ∙ rw y) dr′)))
 
   -- AN ATOM, from its OPEN on
   pub atom-rows : (x : X) (values : Values) (cursors : Cursors) → Ready c c before bound (known x) values cursors (work x .used)
       → Leads m (suc (suc (length facts * suc (length (a .terms) + K))) + N) (stand p values cursors (work x)) (after x (numbered 0 facts))
   atom-rows x values cursors r =
-      within (omega arith) (go (w .0) refl (loop facts 0 x values (change cursors c opened) (ready-move (omega arith) r opened (r .loaded))
-      (rw (change-same cursors c opened)) refl))
+      let opens = ready-move (omega arith) r opened (r .loaded) in
+      within (omega arith) (go (w .0) refl (loop facts 0 x values (change cursors c opened) opens (rw (change-same cursors c opened)) refl))

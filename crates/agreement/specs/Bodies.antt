@@ -42,14 +42,24 @@ cost kinds board tests more [] = length tests + more
 cost kinds board tests more (a ∷ atoms) =
     suc (suc (more + length (rowsOf board (isCard kinds (a .kind))) * suc (length (a .terms) + cost kinds board tests more atoms)))
 
+-- what a body's words come to, from a state that is ready for them
+module _ (m : Machine) (c : ℕ) (before : Cursors) (bound : List ℕ) (known : Known) (work : Work) where
+  -- back, with what was known
+  abbrev pub Fails : ℕ → ℕ → Firing → Type 0
+  Fails back limit f = (v : Values) (cu : Cursors) → Ready c c before bound known v cu (work .used) → Leads m limit (stand back v cu work) f
+
+  -- on behind the tests, with what is known of the choice; the cursors stand on its rows
+  abbrev pub Finds : List ℕ → ℕ → ℕ → (Known → Firing) → Type 0
+  Finds bound′ exit limit k = (known′ : Known) (v : Values) (cu : Cursors) → Extends (known .bindings) bound (known′ .bindings) bound′ → Same c before cu
+      → Ready cursorCount cursorCount cu bound′ known′ v cu (work .used) → Leads m limit (stand exit v cu work) (k known′)
+
 -- A BODY: its words find the first fit
 pub search-body : {m : Machine} → GoodBoard (m .kinds) (m .board) → (tests : List Test) (atoms : List Atom) → All (GoodAtom (m .kinds) anyVariable) atoms
     → {c back limit : ℕ} (p : ℕ) {bound : List ℕ} {before cursors : Cursors} {known : Known} {values : Values} {work : Work} (k : Option Known → Firing)
     → All (GoodTest (λ x. mem x (boundBy atoms bound))) tests → c + length atoms ≤ cursorCount → At m p (bodyWords c p back bound atoms tests)
     → Ready c c before bound known values cursors (work .used)
-    → (fails : (v : Values) (cu : Cursors) → Ready c c before bound known v cu (work .used) → Leads m limit (stand back v cu work) (k none))
-    → (finds : (known′ : Known) (v : Values) (cu : Cursors) → Extends (known .bindings) bound (known′ .bindings) (boundBy atoms bound) → Same c before cu
-    → Ready cursorCount cursorCount cu (boundBy atoms bound) known′ v cu (work .used) → Leads m limit (stand (p + bodyLength atoms tests) v cu work) (k (some known′)))
+    → Fails m c before bound known work back limit (k none)
+    → Finds m c before bound known work (boundBy atoms bound) (p + bodyLength atoms tests) limit (λ known′. k (some known′))
     → Leads m (cost (m .kinds) (m .board) tests 0 atoms + limit) (stand p values cursors work) (k (firstFit (m .kinds) (m .board) atoms tests known))
 unfolding firstFit first choices fit bodyWords bodyLength boundBy cost
 search-body good tests [] atoms-good {limit} p {cursors} {known} {values} k bound-tests room w r fails finds =

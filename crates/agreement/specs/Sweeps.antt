@@ -64,6 +64,16 @@ module _ (m : Machine) (good : GoodBoard (m .kinds) (m .board)) (tests : List Te
   unfolding fold
   skip k a atoms bindings work r rest q = ap (λ w. after k a atoms bindings w rest) (sweepFrom-none kinds board tests taking a atoms bindings r work q)
 
+  -- for each row that fits the first fit of the atoms behind is taken
+  abbrev TakesFirst : Atom → List Atom → Bindings → Type 0
+  TakesFirst a atoms bindings = (work : Work) (r : Row) (known : Known) → fitRow kinds a r (knows bindings work) ≡ some known
+      → sweepFrom kinds board tests taking a atoms bindings work r ≡ taking .take work (firstFit kinds board atoms tests known)
+
+  -- behind its last row a sweep goes on, with its work done
+  abbrev Leaves : ℕ → Cursors → List ℕ → Bindings → ℕ → ℕ → (Work → Firing) → Type 0
+  Leaves c before bound bindings back limit k = (work : Work) (v : Values) (cu : Cursors) → Ready c c before bound (knows bindings work) v cu (work .used)
+      → Leads m limit (stand back v cu work) (k work)
+
   -- what the words behind the tests do with a choice, and where they go
   abbrev pub Leaf : ℕ → ℕ → List ℕ → Type 0
   Leaf p target bound = (limit : ℕ) (known : Known) (values : Values) (before cursors : Cursors) (work : Work) (k : Work → Firing) → Outcome k
@@ -74,11 +84,9 @@ module _ (m : Machine) (good : GoodBoard (m .kinds) (m .board)) (tests : List Te
   module _ (a : Atom) (atoms : List Atom) (atoms-good : All (GoodAtom kinds anyVariable) (a ∷ atoms)) {c p back limit : ℕ} {bound : List ℕ} {before : Cursors}
       {bindings : Bindings} {k : Work → Firing} (outcome : Outcome k) (bound-tests : All (GoodTest (λ x. mem x (boundBy atoms (boundByTerms (a .terms) bound)))) tests)
       (room : c + suc (length atoms) ≤ cursorCount) (w : At m p (bodyWords c p back bound (a ∷ atoms) tests))
-      (leave : (work : Work) (values : Values) (cursors : Cursors) → Ready c c before bound (knows bindings work) values cursors (work .used)
-      → Leads m limit (stand back values cursors work) (k work)) where
-    -- the pivot: for each row that fits the first fit of the atoms behind is taken
-    pivot-rows : ((work : Work) (r : Row) (known : Known) → fitRow kinds a r (knows bindings work) ≡ some known
-        → sweepFrom kinds board tests taking a atoms bindings work r ≡ taking .take work (firstFit kinds board atoms tests known))
+      (leave : Leaves c before bound bindings back limit k) where
+    -- the pivot's rows
+    pivot-rows : TakesFirst a atoms bindings
         → Leaf (p + bodyLength (a ∷ atoms) tests) (suc p) (boundBy (a ∷ atoms) bound)
         → Rows m a c p back bound before (λ work. work) (knows bindings) (after k a atoms bindings) (cost kinds board tests leaf atoms) limit
     unfolding fold boundBy
@@ -111,8 +119,7 @@ module _ (m : Machine) (good : GoodBoard (m .kinds) (m .board)) (tests : List Te
       → c + suc (length atoms) ≤ cursorCount → At m p (bodyWords c p back bound (a ∷ atoms) tests)
       → Leaf (p + bodyLength (a ∷ atoms) tests) (resume kinds p (a ∷ atoms)) (boundBy (a ∷ atoms) bound)
       → Ready c c before bound (knows bindings work) values cursors (work .used)
-      → ((work : Work) (values : Values) (cursors : Cursors) → Ready c c before bound (knows bindings work) values cursors (work .used)
-      → Leads m limit (stand back values cursors work) (k work))
+      → Leaves c before bound bindings back limit k
       → Leads m (cost kinds board tests leaf (a ∷ atoms) + limit) (stand p values cursors work) (k (sweepAll kinds board tests taking (a ∷ atoms) bindings work))
   unfolding boundBy resume fold
   sweep-body a [] atoms-good p {cursors} {bindings} {values} work k outcome bound-tests room w leaf-words r leave =
