@@ -22,7 +22,7 @@ use Rattle.agreement.specs.Tools.{all-at, drop-at, drop-suc, cases, opti
 use Rattle.agreement.specs.Leads.{Machine, Leads, within, go, At, halves}
 use Rattle.agreement.specs.Lengths.{length-argumentWords}
 use Rattle.agreement.specs.Registers.{Loaded, Extends, mem-names, under-store, extends-new}
-use Rattle.agreement.specs.Cursors.{change-same, Same, same-change, Ready, ready-move, ready-off, ready-row, ready-back, ready-all}
+use Rattle.agreement.specs.Cursors.{change-same, Same, Ready, ready-move, ready-off, ready-row, ready-back, ready-all}
 
 -- the state at a word, with that work done
 abbrev pub stand : ℕ → Values → Cursors → Work → State

@@ -1,25 +1,23 @@
 -- A rule's words fire it as the book does, or go on to the next rule where no choice fits; the rules in order, then QUIET, do what a firing of
 -- the book does.
-use mathlib.Core.Path.{_≡_, refl, sym, ap, subst, fun-ext}
+use mathlib.Core.Path.{refl, ap}
 use Prim.Native.Nat.{ℕ, suc, _+_, _*_, _≤_}
 use native.Mathlib.Nat.{add-zero, add-assoc}
 use native.Mathlib.Omega.{arith}
-use mathlib.Core.Bool.{Bool, _||_, or-assoc, or-comm, or-false}
 use mathlib.Core.Option.{Option, some, Option·none-ne-some}
 use mathlib.Core.List.{List, [], _∷_, _++_}
 use lib.ListN.{length}
-use lib.Dec.{eqb}
-use borrow.Author.Tests.{eqb-true}
 use Rattle.meaning.specs.Basics.{fold, mem, All}
 use Rattle.meaning.specs.Facts.{Kind, Board, mostInRule, mostInSweep}
-use Rattle.meaning.specs.Rules.{Term, constant, variable, Atom, Test, Sweep, Rule, Values, occursInTerms, occursIn}
+use Rattle.meaning.specs.Rules.{Atom, Test, Sweep, Rule, Values}
 use Rattle.meaning.specs.Fit.{Bindings, Known, noMarks, nothingKnown, fit, choices, firstFit}
 use Rattle.meaning.specs.Firing.{Work, taken, takeIfFits, runSweep, runSweeps, ruleWork, settle, Firing, fireRule, fireFrom}
 use Rattle.meaning.specs.Words.{KEEP, JUMP, FIRE, Cursors, cursorCount}
-use Rattle.meaning.specs.Translation.{boundByTerm, boundByTerms, boundBy, bodyWords, bodyLength, headWords, headLength, resume, sweepWords, sweepLength, sweepsWords, sweepsLength, ruleWords, ruleLength, rulesWords}
-use Rattle.meaning.specs.WellFormed.{GoodAtom, GoodGroup, GoodSweep, GoodRule, GoodBoard}
-use Rattle.agreement.specs.Tools.{cases, options}
+use Rattle.meaning.specs.Translation.{boundBy, bodyWords, bodyLength, headWords, headLength, resume, sweepWords, sweepLength, sweepsWords, sweepsLength, ruleWords, ruleLength, rulesWords}
+use Rattle.meaning.specs.WellFormed.{GoodAtom, GoodSweep, GoodRule, GoodBoard}
+use Rattle.agreement.specs.Tools.{options}
 use Rattle.agreement.specs.Leads.{Machine, Leads, within, go, stop, At, halves}
+use Rattle.agreement.specs.Variables.{rule-group, sweep-group}
 use Rattle.agreement.specs.Lengths.{length-bodyWords, length-headWords, length-sweepWords, length-sweepsWords, length-ruleWords}
 use Rattle.agreement.specs.Registers.{Loaded}
 use Rattle.agreement.specs.Cursors.{Idle, Ready, ready-idle, idle-ready}
@@ -29,40 +27,6 @@ use Rattle.agreement.specs.Atoms.{stand}
 use Rattle.agreement.specs.Bodies.{cost, search-body}
 use Rattle.agreement.specs.Heads.{Overflows, keep-heads}
 use Rattle.agreement.specs.Sweeps.{Leaf, later-fold, sweep-body}
-
--- ---- a variable that may stand in a test or head is bound there
-
-mem-new : (x y : ℕ) (bound : List ℕ) → mem x (boundByTerm (variable y) bound) ≡ (mem x bound || eqb x y)
-mem-new x y bound =
-    cases (mem y bound)
-    (λ old. rw old (cases (eqb x y) (λ q. let z : x ≡ y = eqb-true x y q in rw (z, old)) (λ q. rw (q, or-false (mem x bound)))))
-    (λ new. rw new (or-comm (eqb x y) (mem x bound)))
-
-mem-terms : (x : ℕ) (terms : List Term) (bound : List ℕ) → mem x (boundByTerms terms bound) ≡ (mem x bound || occursInTerms x terms)
-unfolding boundByTerms
-mem-terms x [] bound = sym (or-false (mem x bound))
-mem-terms x (constant v ∷ terms) bound = mem-terms x terms bound
-mem-terms x (variable y ∷ terms) bound = rw (mem-terms x terms _, mem-new x y bound) (or-assoc (mem x bound) (eqb x y) (occursInTerms x terms))
-
-pub mem-atoms : (x : ℕ) (atoms : List Atom) (bound : List ℕ) → mem x (boundBy atoms bound) ≡ (mem x bound || occursIn x atoms)
-unfolding boundBy
-mem-atoms x [] bound = sym (or-false (mem x bound))
-mem-atoms x (a ∷ atoms) bound = rw (mem-atoms x atoms _, mem-terms x (a .terms) bound) (or-assoc (mem x bound) (occursInTerms x (a .terms)) (occursIn x atoms))
-
--- "A variable in a rule's test or head must occur in that rule's body; in a sweep's test or head, in the rule's body or that sweep's."
-group-bound : {kinds : List Kind} {most : ℕ} {body heads : List Atom} {tests : List Test} (may bound : ℕ → Bool) → ((x : ℕ) → bound x ≡ may x)
-    → GoodGroup kinds most may body tests heads → GoodGroup kinds most bound body tests heads
-group-bound {kinds} {most} {body} {heads} {tests} may bound same = subst (λ b. GoodGroup kinds most b body tests heads) (fun-ext λ x. sym (same x))
-
-rule-group : {kinds : List Kind} {rule : Rule} → GoodRule kinds rule
-    → GoodGroup kinds mostInRule (λ x. mem x (boundBy (rule .body) [])) (rule .body) (rule .tests) (rule .heads)
-rule-group {rule} good = group-bound (λ x. occursIn x (rule .body)) _ (λ x. mem-atoms x (rule .body) []) (good .group)
-
-sweep-group : {kinds : List Kind} {ruleBody : List Atom} {sweep : Sweep} → GoodSweep kinds ruleBody sweep
-    → GoodGroup kinds mostInSweep (λ x. mem x (boundBy (sweep .body) (boundBy ruleBody []))) (sweep .body) (sweep .tests) (sweep .heads)
-sweep-group {ruleBody} {sweep} good =
-    group-bound (λ x. occursIn x ruleBody || occursIn x (sweep .body)) _
-    (λ x. rw (mem-atoms x (sweep .body) (boundBy ruleBody []), mem-atoms x ruleBody [])) (good .group)
 
 -- ---- sweeps
 
@@ -174,6 +138,7 @@ module _ (m : Machine) (good : GoodBoard (m .kinds) (m .board)) where
       (sweeps-done (rule .body) sweeps mostInRule q′ _ (settle kinds board r) (rule-good .sweeps) (omega (arith, rule-good .sweepsSize)) (parts′ .0) (overfull-settles kinds board r)
       (ready .loaded) (ready-idle ready) (λ work v cu. stop (parts′ .1 .0) refl)))
 
+  -- a rule: it fires, or the words go on behind it
   rule-done : {limit : ℕ} (r p : ℕ) (rule : Rule) (later : Firing) {values : Values} {cursors : Cursors} → GoodRule kinds rule → At m p (ruleWords kinds r p rule)
       → Idle 0 noMarks cursors
       → ((values′ : Values) (cursors′ : Cursors) → Idle 0 noMarks cursors′ → Leads m limit (stand (p + ruleLength rule) values′ cursors′ nothingDone) later)

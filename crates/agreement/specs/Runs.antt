@@ -5,7 +5,6 @@ use mathlib.Core.Logic.{_↔_, _⊎_, ⊎-elim}
 use Prim.Native.Nat.{ℕ, _^_, _≤_, _<_}
 use native.Mathlib.Nat.{zero-add}
 use mathlib.Core.Bool.{Bool, true, false, false≢true}
-use lib.Dec.{leb}
 use Rattle.meaning.specs.Basics.{if_then_else_}
 use Rattle.meaning.specs.Facts.{Board}
 use Rattle.meaning.specs.Rules.{Book}
@@ -13,7 +12,7 @@ use Rattle.meaning.specs.Firing.{fire, Attempt, done, spent, stuck, End, Limit,
 use Rattle.meaning.specs.Words.{attempt, runStrip}
 use Rattle.meaning.specs.Translation.{translate}
 use Rattle.meaning.specs.WellFormed.{GoodBook, GoodBoard}
-use Rattle.agreement.specs.Tools.{cases, impossible}
+use Rattle.agreement.specs.Tools.{impossible}
 use Rattle.agreement.specs.Attempts.{attempt-done-or-spent, attempt-done}
 use Rattle.agreement.specs.Bound.{attempt-2^60-enough}
 use Rattle.agreement.specs.Boards.{fire-keeps-good}
