@@ -64,7 +64,8 @@ module _ {m : Machine} {cursors : Cursors} {work : Work} where
       → (agrees : Agrees m cursors work bindings bound (agreeAll terms numbers bindings) (boundByTerms terms bound) (p + length terms) limit f)
       → Leads m (length terms + limit) (stand p values cursors work) f
   unfolding agreeAll argumentWords boundByTerms
-  arguments c row? [] [] i p {values} {bindings} ln dr l w differs agrees = within (omega arith) (rw add-zero at (agrees bindings values refl (λ v l′. l′) l))
+  arguments c row? [] [] i p {values} {bindings} ln dr l w differs agrees = within (omega arith)
+      (rw add-zero at (agrees bindings values refl (λ v l′. l′) l))
   arguments c row? [] (n ∷ numbers) i p ln dr l w differs agrees = absurd (omega arith)
   arguments c row? (t ∷ terms) [] i p ln dr l w differs agrees = absurd (omega arith)
   arguments c {row} row? (t ∷ terms) (n ∷ numbers) i p {values} ln dr l w differs agrees =
@@ -79,7 +80,8 @@ abbrev pub atomWords : ℕ → ℕ → ℕ → List ℕ → Atom → List Word
 atomWords c p back bound a = OPEN c ∷ SEEK c (a .kind) back ∷ argumentWords c 0 (suc p) bound (a .terms)
 
 -- a body's first atom, and the atoms behind it
-pub body-halves : (m : Machine) (c p back : ℕ) (bound : List ℕ) (a : Atom) (atoms : List Atom) (tests : List Test) → At m p (bodyWords c p back bound (a ∷ atoms) tests)
+pub body-halves : (m : Machine) (c p back : ℕ) (bound : List ℕ) (a : Atom) (atoms : List Atom) (tests : List Test)
+    → At m p (bodyWords c p back bound (a ∷ atoms) tests)
     → At m p (atomWords c p back bound a)
     × At m (suc (suc p) + length (a .terms)) (bodyWords (suc c) (suc (suc p) + length (a .terms)) (suc p) (boundByTerms (a .terms) bound) atoms tests)
 unfolding bodyWords
@@ -115,9 +117,11 @@ module _ {X : Type 0} (m : Machine) (a : Atom) (c p back : ℕ) (bound : List �
     -- a row that does not fit changes nothing
     pub skips : (x : X) (r : Row) (rest : List Row) → fitRow (m .kinds) a r (known x) ≡ none → after x (r ∷ rest) ≡ after x rest
     -- behind the last row the words go back
-    pub none-left : (x : X) (v : Values) (cu : Cursors) → Ready c c before bound (known x) v cu (work x .used) → Leads m N (stand back v cu (work x)) (after x [])
+    pub none-left : (x : X) (v : Values) (cu : Cursors) → Ready c c before bound (known x) v cu (work x .used)
+        → Leads m N (stand back v cu (work x)) (after x [])
     -- with a row that fits they come to the words behind the atom
-    pub fits : (x : X) (r : Row) (rest : List Row) (known′ : Known) (v : Values) (cu : Cursors) (M : ℕ) → N ≤ M → fitRow (m .kinds) a r (known x) ≡ some known′
+    pub fits : (x : X) (r : Row) (rest : List Row) (known′ : Known) (v : Values) (cu : Cursors) (M : ℕ) → N ≤ M
+        → fitRow (m .kinds) a r (known x) ≡ some known′
         → Extends (known x .bindings) bound (known′ .bindings) (boundByTerms (a .terms) bound) → Same c before cu → Behind x cu known′ v cu
         → GivesUp x cu known′ rest M → Again cu rest M
         → Leads m (K + M) (stand (suc (suc p) + length (a .terms)) v cu (work x)) (after x (r ∷ rest))
@@ -165,12 +169,14 @@ module _ {X : Type 0} {m : Machine} (good : GoodBoard (m .kinds) (m .board)) (a 
       let rest : List Row = numbered (suc n) fs in
       let moved : Cursors = change cursors c (on class n) in
       let found = drop-at n facts f fs dr in
-      let long : length (f .numbers) ≡ length (a .terms) = row-arity good class n f found ∙ rw (stand-kind (m .kinds) (a .kind) (known x .gone) n f y) (sym arity) in
+      let long : length (f .numbers) ≡ length (a .terms) = row-arity good class n f found ∙ rw (stand-kind (m .kinds) (a .kind) (known x .gone) n f y)
+      (sym arity) in
       go (w .1 .0) (seeks x values cursors r (some n) place)
       (arguments c {row = f} (rw (change-same cursors c (on class n)) found) (a .terms) (f .numbers) 0 (suc (suc p)) long refl (r .loaded) (w .1 .1)
       (λ q v l. rw (rows .skips x row rest (rw (y, q))) (within (omega arith) (again x v moved (ready-move (omega arith) r (on class n) l) refl)))
       (λ b v q ext l. let here = ready-move (omega arith) r (on class n) (ext v l) in
-      rows .fits x row rest (record { bindings = b; gone = takeRow class n (known x .gone) }) v moved M enough (rw (y, q)) ext (here .same) (ready-row r class n l)
+      rows .fits x row rest (record { bindings = b; gone = takeRow class n (known x .gone) }) v moved M enough (rw (y, q)) ext (here .same)
+      (ready-row r class n l)
       (λ v′ cu r′. again x v′ cu (ready-back here (ext v′ (r′ .loaded)) (λ i h. r′ .same i (omega arith)) (r′ .idle)) (r′ .same c (omega arith))) again))
 
   -- the rows from n on
@@ -179,13 +185,15 @@ module _ {X : Type 0} {m : Machine} (good : GoodBoard (m .kinds) (m .board)) (a 
       → Leads m (length fs * suc (length (a .terms) + K) + suc N) (stand (suc p) values cursors (work x)) (after x (numbered n fs))
   unfolding nextRow numbered
   loop [] n x values cursors r place dr =
-      within (omega arith) (go (w .1 .0) (seeks x values cursors r none place) (rows .none-left x values (change cursors c past) (ready-off r past (λ row. refl))))
+      within (omega arith) (go (w .1 .0) (seeks x values cursors r none place)
+      (rows .none-left x values (change cursors c past) (ready-off r past (λ row. refl))))
   loop (f ∷ fs) n x values cursors r place dr =
       let dr′ : drop (suc n) facts ≡ fs = drop-suc n facts f fs dr in
       cases (willDo x n f)
       (λ y. within (omega arith) (takes-row (length fs * suc (length (a .terms) + K) + suc N) n f fs x values cursors (omega arith) r (place ∙ rw y) dr y
       (λ x′ v cu r′ e. loop fs (suc n) x′ v cu r′ (rw (e, change-same cursors c (on class n), dr′)) dr′)))
-      (λ y. rw (rows .skips x (record { at = n; fact = f }) (numbered (suc n) fs) (rw y)) (within (omega arith) (loop fs (suc n) x values cursors r (place ∙ rw y) dr′)))
+      (λ y. rw (rows .skips x (record { at = n; fact = f }) (numbered (suc n) fs) (rw y))
+      (within (omega arith) (loop fs (suc n) x values cursors r (place ∙ rw y) dr′)))
 
   -- AN ATOM, from its OPEN on
   pub atom-rows : (x : X) (values : Values) (cursors : Cursors) → Ready c c before bound (known x) values cursors (work x .used)

@@ -31,8 +31,11 @@ seam (x ∷ before) w more = seam before w more
 
 words-at : (m : Machine) (p : ℕ) (before words : List Word) → length before ≡ p → m .words ≡ before ++ words → At m p words
 words-at m p before [] l e = tt
-words-at m p before (w ∷ words) l e =
-    (rw (e, ← l) (seam before w words), words-at m (suc p) (before ++ (w ∷ [])) words (omega (arith, length-append before (w ∷ []))) (e ∙ sym (append-snoc before w words)))
+words-at m p before (w ∷ words) l e = (
+  rw (e, ← l) (seam before w words),
+  words-at m (suc p) (before ++ (w ∷ [])) words (omega (arith, length-append before (w ∷ [])))
+      (e ∙ sym (append-snoc before w words)),
+)
 
 -- ---- the attempt
 
@@ -47,7 +50,8 @@ start-leads {book} {board} good board-good =
     let kinds : List Kind = book .kinds in
     rw (translate-kinds book)
     (rules-done (translated book board) board-good (book .rules) 0 (length kinds) (good .rules)
-    (words-at (translated book board) (length kinds) (map kindWord kinds) (rulesWords kinds 0 (length kinds) (book .rules)) (length-map kinds kindWord) (unfold translate in refl))
+    (words-at (translated book board) (length kinds) (map kindWord kinds) (rulesWords kinds 0 (length kinds) (book .rules)) (length-map kinds kindWord)
+    (unfold translate in refl))
     (λ i row l k h. absurd (false≢true h)))
 
 -- an attempt of the book's strip takes so many steps: with fewer allowed it is spent, else it ends as the book's firing
@@ -63,7 +67,8 @@ attempt-takes {book} good board-good =
     (leads .steps, leads .few, λ allowance. rw (translate-kinds book) (leads .result allowance))
 
 -- "It reports that exactly when one attempt at a firing takes more steps than allowed."
-pub attempt-spent-iff : (book : Book) (board : Board) (steps : ℕ) → Takes book board steps → (allowance : ℕ) → (attempt (translate book) allowance board ≡ spent) ↔ (allowance < steps)
+pub attempt-spent-iff : (book : Book) (board : Board) (steps : ℕ) → Takes book board steps → (allowance : ℕ)
+    → (attempt (translate book) allowance board ≡ spent) ↔ (allowance < steps)
 attempt-spent-iff book board steps takes allowance = (
   λ h. cases (leb steps allowance)
       (λ y. impossible (cc (rw y at (takes allowance))))
@@ -92,5 +97,6 @@ pub attempt-done : {book : Book} {board : Board} {firing : Firing} → GoodBook 
 attempt-done good board-good allowance h = ⊎-elim (λ e. cc) (λ e. impossible (cc)) (attempt-done-or-spent good board-good allowance)
 
 -- "a translated strip is never stuck"
-pub attempt-not-stuck : {book : Book} {board : Board} → GoodBook book → GoodBoard (book .kinds) board → (allowance : ℕ) → attempt (translate book) allowance board ≡ stuck → ⊥
+pub attempt-not-stuck : {book : Book} {board : Board} → GoodBook book → GoodBoard (book .kinds) board → (allowance : ℕ)
+    → attempt (translate book) allowance board ≡ stuck → ⊥
 attempt-not-stuck good board-good allowance h = ⊎-elim (λ e. impossible (cc)) (λ e. impossible (cc)) (attempt-done-or-spent good board-good allowance)

@@ -77,9 +77,11 @@ search-body {m} good tests (a ∷ atoms) atoms-good {c} {back} {limit} p {bound}
       none-left = λ _. fails;
       fits = λ _ row rest known′ v cu M h q ext same deep gives-up again.
           rw (fitFrom-some kinds board tests a atoms known known′ row q)
-          (search-body good tests atoms (atoms-good .1) (suc (suc p) + length (a .terms)) (λ o. k (orElse o (first (fitFrom kinds board tests a atoms known) rest)))
+          (search-body good tests atoms (atoms-good .1) (suc (suc p) + length (a .terms))
+          (λ o. k (orElse o (first (fitFrom kinds board tests a atoms known) rest)))
           bound-tests (omega arith) (parts .1) deep gives-up
-          (λ known″ v′ cu′ ext′ same′ r′. within h (rw (body-exit p a atoms tests) at (finds known″ v′ cu′ (λ u l. ext u (ext′ u l)) (λ i l. same′ i (omega arith) ∙ same i l) r′))));
+          (λ known″ v′ cu′ ext′ same′ r′. within h (rw (body-exit p a atoms tests) at
+          (finds known″ v′ cu′ (λ u l. ext u (ext′ u l)) (λ i l. same′ i (omega arith) ∙ same i l) r′))));
     } in
     rw (firstFit-rows kinds board tests a atoms known)
     (within (omega arith) (atom-rows good a (atoms-good .0 .arity) (omega arith) (parts .0) rows tt values cursors r))

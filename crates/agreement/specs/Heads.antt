@@ -41,11 +41,20 @@ set-next : (made : List Fact) (k : ℕ) (done : List ℕ) (z v : ℕ) (rest : Li
     → onLast (setNumber (length done) v) (made ++ (fact k (done ++ (z ∷ rest)) ∷ [])) ≡ some (made ++ (fact k ((done ++ (v ∷ [])) ++ rest) ∷ []))
 set-next made k done z v rest =
     on-last (setNumber (length done) v) (fact k (done ++ (z ∷ rest))) (fact k ((done ++ (v ∷ [])) ++ rest))
-    (rw (lt-ltb (length done) (length (done ++ (z ∷ rest))) (omega (arith, length-append done (z ∷ rest))), set-append-seam done z rest v, append-snoc done v rest)) made
+    (rw (
+      lt-ltb (length done) (length (done ++ (z ∷ rest))) (omega (
+        arith,
+        length-append done
+            (z ∷ rest),
+      )),
+      set-append-seam done z rest v,
+      append-snoc done v rest,
+    )) made
 
 module _ {m : Machine} {cursors : Cursors} {used : Marks} {values : Values} {bindings : Bindings} {bound : List ℕ} (l : Loaded bindings bound values) where
   -- the ARGs of a head atom
-  numbers-set : {limit : ℕ} {f : Firing} (k : ℕ) (made : List Fact) (terms : List Term) (done : List ℕ) (p : ℕ) → All (GoodTerm (λ x. mem x bound)) terms → At m p (argWords (length done) terms)
+  numbers-set : {limit : ℕ} {f : Firing} (k : ℕ) (made : List Fact) (terms : List Term) (done : List ℕ) (p : ℕ)
+      → All (GoodTerm (λ x. mem x bound)) terms → At m p (argWords (length done) terms)
       → Leads m limit (state (p + length terms) values cursors used (made ++ (fact k (done ++ map (valueOf (valuesOf bindings)) terms) ∷ []))) f
       → Leads m (length terms + limit) (state p values cursors used (made ++ (fact k (done ++ replicate (length terms) 0) ∷ []))) f
   unfolding argWords
@@ -60,7 +69,8 @@ module _ {m : Machine} {cursors : Cursors} {used : Marks} {values : Values} {bin
       (rw (append-snoc done v (map (valueOf (valuesOf bindings)) terms)) (rw (add-suc, ← suc-add) at after))))
 
   -- the words of the head atoms
-  heads-made : {limit : ℕ} {f : Firing} (heads : List Atom) (made : List Fact) (p : ℕ) → All (GoodAtom (m .kinds) (λ x. mem x bound)) heads → At m p (headWords heads)
+  heads-made : {limit : ℕ} {f : Firing} (heads : List Atom) (made : List Fact) (p : ℕ) → All (GoodAtom (m .kinds) (λ x. mem x bound)) heads
+      → At m p (headWords heads)
       → (madeHasRoom (m .kinds) (made ++ headFacts bindings heads) ≡ false → f ≡ full)
       → Leads m limit (state (p + headLength heads) values cursors used (made ++ headFacts bindings heads)) f
       → Leads m (headLength heads + limit) (state p values cursors used made) f
@@ -71,13 +81,17 @@ module _ {m : Machine} {cursors : Cursors} {used : Marks} {values : Values} {bin
       let zeros : Fact = fact (h .kind) (replicate (arityOf kinds (h .kind)) 0) in
       let made′ : List Fact = made ++ (headFact (valuesOf bindings) h ∷ []) in
       let same : madeHasRoom kinds (made ++ (zeros ∷ [])) ≡ madeHasRoom kinds made′ = room-kind kinds made zeros (headFact (valuesOf bindings) h) refl in
-      let all : made′ ++ headFacts bindings heads ≡ made ++ headFacts bindings (h ∷ heads) = append-snoc made (headFact (valuesOf bindings) h) (headFacts bindings heads) in
-      let parts = halves m (suc p) (suc p + length (h .terms)) (argWords 0 (h .terms)) (headWords heads) (omega (arith, length-argWords 0 (h .terms))) (w .1) in
+      let all : made′ ++ headFacts bindings heads ≡ made ++ headFacts bindings (h ∷ heads) = append-snoc made (headFact (valuesOf bindings) h)
+      (headFacts bindings heads) in
+      let parts = halves m (suc p) (suc p + length (h .terms)) (argWords 0 (h .terms)) (headWords heads) (omega (arith, length-argWords 0 (h .terms)))
+      (w .1) in
       let exit : p + suc (length (h .terms) + headLength heads) ≡ suc p + length (h .terms) + headLength heads = omega arith in
       cases (madeHasRoom kinds made′)
-      (λ y. within (omega arith) (go {n = length (h .terms) + (headLength heads + limit)} {s′ = state (suc p) values cursors used (made ++ (zeros ∷ []))} (w .0) (rw (same, y))
+      (λ y. within (omega arith) (go {n = length (h .terms) + (headLength heads + limit)} {s′ = state (suc p) values cursors used
+      (made ++ (zeros ∷ []))} (w .0) (rw (same, y))
       (rw (← (good .0 .arity)) (numbers-set {limit = headLength heads + limit} (h .kind) made (h .terms) [] (suc p) (good .0 .terms) (parts .0)
-      (heads-made {limit = limit} heads made′ (suc p + length (h .terms)) (good .1) (parts .1) (λ q. overfull (rw all at q)) (rw all (rw exit at after)))))))
+      (heads-made {limit = limit} heads made′ (suc p + length (h .terms)) (good .1) (parts .1) (λ q. overfull (rw all at q))
+      (rw all (rw exit at after)))))))
       (λ y. let none : madeHasRoom kinds (made′ ++ headFacts bindings heads) ≡ false = room-less kinds made′ (headFacts bindings heads) y in
       rw (overfull (rw all at none)) (within {n = 1} (omega arith) (stop (w .0) (rw (same, y)))))
 
@@ -86,7 +100,8 @@ abbrev pub Overflows : List Kind → (Work → Firing) → Type 0
 Overflows kinds k = (work : Work) → madeHasRoom kinds (work .made) ≡ false → k work ≡ full
 
 -- THE HEADS: KEEP and the head atoms' words take the choice
-pub keep-heads : {m : Machine} {limit : ℕ} {before cursors : Cursors} {bound : List ℕ} {known : Known} {values : Values} {work : Work} (heads : List Atom) (p : ℕ)
+pub keep-heads : {m : Machine} {limit : ℕ} {before cursors : Cursors} {bound : List ℕ} {known : Known} {values : Values} {work : Work}
+    (heads : List Atom) (p : ℕ)
     → All (GoodAtom (m .kinds) (λ x. mem x bound)) heads → At m p (KEEP ∷ headWords heads)
     → Ready cursorCount cursorCount before bound known values cursors (work .used) → (k : Work → Firing) → Overflows (m .kinds) k
     → Leads m limit (stand (p + suc (headLength heads)) values cursors (taken heads work (some known))) (k (taken heads work (some known)))

@@ -17,10 +17,16 @@ unfolding testWords
 length-testWords seek [] = refl
 length-testWords seek (t ∷ tests) = ap suc (length-testWords seek tests)
 
-pub length-bodyWords : (c p back : ℕ) (bound : List ℕ) (atoms : List Atom) (tests : List Test) → length (bodyWords c p back bound atoms tests) ≡ bodyLength atoms tests
+pub length-bodyWords : (c p back : ℕ) (bound : List ℕ) (atoms : List Atom) (tests : List Test)
+    → length (bodyWords c p back bound atoms tests) ≡ bodyLength atoms tests
 unfolding bodyWords bodyLength
 length-bodyWords c p back bound [] tests = length-testWords back tests
-length-bodyWords c p back bound (a ∷ atoms) tests = simp (length-append, length-argumentWords, length-bodyWords (suc c) (suc (suc p) + length (a .terms)) (suc p) (boundByTerms (a .terms) bound) atoms tests)
+length-bodyWords c p back bound (a ∷ atoms) tests = simp (
+  length-append,
+  length-argumentWords,
+  length-bodyWords (suc c)
+      (suc (suc p) + length (a .terms)) (suc p) (boundByTerms (a .terms) bound) atoms tests,
+)
 
 pub length-argWords : (i : ℕ) (terms : List Term) → length (argWords i terms) ≡ length terms
 unfolding argWords
@@ -36,10 +42,16 @@ pub length-sweepWords : (kinds : List Kind) (c p : ℕ) (bound : List ℕ) (swee
 unfolding sweepWords sweepLength
 length-sweepWords kinds c p bound sweep = simp (length-append, length-bodyWords, length-headWords)
 
-pub length-sweepsWords : (kinds : List Kind) (c p : ℕ) (bound : List ℕ) (sweeps : List Sweep) → length (sweepsWords kinds c p bound sweeps) ≡ sweepsLength sweeps
+pub length-sweepsWords : (kinds : List Kind) (c p : ℕ) (bound : List ℕ) (sweeps : List Sweep)
+    → length (sweepsWords kinds c p bound sweeps) ≡ sweepsLength sweeps
 unfolding sweepsWords sweepsLength
 length-sweepsWords kinds c p bound [] = refl
-length-sweepsWords kinds c p bound (sweep ∷ more) = simp (length-append, length-sweepWords, length-sweepsWords kinds (mostInSweep + c) (p + sweepLength sweep) bound more)
+length-sweepsWords kinds c p bound (sweep ∷ more) = simp (
+  length-append,
+  length-sweepWords,
+  length-sweepsWords kinds (mostInSweep + c)
+      (p + sweepLength sweep) bound more,
+)
 
 pub length-ruleWords : (kinds : List Kind) (r p : ℕ) (rule : Rule) → length (ruleWords kinds r p rule) ≡ ruleLength rule
 unfolding ruleWords ruleLength

@@ -45,7 +45,8 @@ many-kind : (kinds : List Kind) (class : Bool) (made : List Fact) (f f′ : Fact
     → many kinds class (made ++ (f ∷ [])) ≡ many kinds class (made ++ (f′ ∷ []))
 many-kind kinds class made f f′ e = simp (many-append, ofClass-cons, e, ofClass-nil) (cases (isOf kinds class f′) (λ y. rw y) (λ y. rw y))
 
-pub room-kind : (kinds : List Kind) (made : List Fact) (f f′ : Fact) → f .kind ≡ f′ .kind → madeHasRoom kinds (made ++ (f ∷ [])) ≡ madeHasRoom kinds (made ++ (f′ ∷ []))
+pub room-kind : (kinds : List Kind) (made : List Fact) (f f′ : Fact) → f .kind ≡ f′ .kind
+    → madeHasRoom kinds (made ++ (f ∷ [])) ≡ madeHasRoom kinds (made ++ (f′ ∷ []))
 room-kind kinds made f f′ e = rw (many-kind kinds true made f f′ (rw e), many-kind kinds false made f f′ (rw e))
 
 -- more cards or notices than there is room for stay too many when others join them
@@ -64,10 +65,12 @@ room-less kinds xs ys h =
     (omega (arith, many-append kinds true xs ys)) (omega (arith, many-append kinds false xs ys)) h
 
 -- "If that exceeds 256 cards or 128 notices, the run ends with FULL."
-pub overfull-settles : (kinds : List Kind) (board : Board) (number : ℕ) (work : Work) → madeHasRoom kinds (work .made) ≡ false → settle kinds board number work ≡ full
+pub overfull-settles : (kinds : List Kind) (board : Board) (number : ℕ) (work : Work) → madeHasRoom kinds (work .made) ≡ false
+    → settle kinds board number work ≡ full
 overfull-settles kinds board number work h =
     let after : Board = boardAfter kinds board work in
-    let none : hasRoom after ≡ false = too-many (many kinds true (work .made)) (length (after .cards)) (many kinds false (work .made)) (length (after .notices))
+    let none : hasRoom after ≡ false = too-many (many kinds true (work .made)) (length (after .cards)) (many kinds false (work .made))
+    (length (after .notices))
     (omega (arith, length-append (unusedRows 0 (work .used) (board .cards)) (ofClass kinds true (work .made))))
     (omega (arith, length-append (board .notices) (ofClass kinds false (work .made)))) h in
     rw none

@@ -35,11 +35,13 @@ mem-names x [] = refl
 mem-names x (b ∷ more) = cases (eqb x (b .name)) (λ y. rw y) (λ y. rw y (mem-names x more))
 
 -- a store to the register of a variable that has no value
-pub under-store : (bindings : Bindings) (values : Values) (x n : ℕ) → Under bindings values → Under (record { name = x; value = n } ∷ bindings) (change values x n)
+pub under-store : (bindings : Bindings) (values : Values) (x n : ℕ) → Under bindings values
+    → Under (record { name = x; value = n } ∷ bindings) (change values x n)
 under-store bindings values x n u y v h = cases (eqb y x) (λ q. rw q (let r : some n ≡ some v = rw q at h in cc)) (λ q. rw q (u y v (rw q at h)))
 
 -- a new value leaves those before it
-under-new : (bindings : Bindings) (values : Values) (x n : ℕ) → lookup x bindings ≡ none → Under (record { name = x; value = n } ∷ bindings) values → Under bindings values
+under-new : (bindings : Bindings) (values : Values) (x n : ℕ) → lookup x bindings ≡ none → Under (record { name = x; value = n } ∷ bindings) values
+    → Under bindings values
 under-new bindings values x n new u y v h =
     cases (eqb y x)
     (λ q. impossible (cc (ap (λ (i : ℕ). lookup i bindings) (eqb-true y x q))))

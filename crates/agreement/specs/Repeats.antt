@@ -44,7 +44,8 @@ module _ (over : Board → Bool) (firing : Board → Firing) where
     pub after : repeat short limit board firings rule ≡ ended Spent reached (firings + m) last
     pub cut : over reached ≡ true
 
-  pub short-or-whole : (limit : ℕ) (board : Board) (firings rule : ℕ) → (repeat short limit board firings rule ≡ repeat whole limit board firings rule) ⊎ Stopped limit board firings rule
+  pub short-or-whole : (limit : ℕ) (board : Board) (firings rule : ℕ)
+      → (repeat short limit board firings rule ≡ repeat whole limit board firings rule) ⊎ Stopped limit board firings rule
   unfolding repeat
   short-or-whole zero board firings rule = inl refl
   short-or-whole (suc left) board firings rule =
@@ -105,7 +106,8 @@ unfolding repeat
 repeat-same P look look′ same keeps zero board firings rule p = refl
 repeat-same P look look′ same keeps (suc left) board firings rule p =
     rw (← (same board p))
-    (go-on _≡_ (look board) board firings rule _ _ (λ end. refl) (λ rule′ board′ e. repeat-same P look look′ same keeps left board′ (suc firings) rule′ (keeps board rule′ board′ p e)))
+    (go-on _≡_ (look board) board firings rule _ _ (λ end. refl) (λ rule′ board′ e. repeat-same P look look′ same keeps left board′ (suc firings) rule′
+    (keeps board rule′ board′ p e)))
 
 pub repeat-keeps : (P : Board → Type 0) (look : Board → Attempt) → Keeps P look → (limit : ℕ) (board : Board) (firings rule : ℕ) → P board
     → P (repeat look limit board firings rule .board)

@@ -32,7 +32,8 @@ spent-is stuck h = absurd (false≢true h)
 abbrev pub fireWithin : Book → ℕ → Board → Attempt
 fireWithin book allowance board = if isSpent (attempt (translate book) allowance board) then spent else done (fire book board)
 
-attempt-is : {book : Book} {board : Board} → GoodBook book → GoodBoard (book .kinds) board → (allowance : ℕ) → attempt (translate book) allowance board ≡ fireWithin book allowance board
+attempt-is : {book : Book} {board : Board} → GoodBook book → GoodBoard (book .kinds) board → (allowance : ℕ)
+    → attempt (translate book) allowance board ≡ fireWithin book allowance board
 attempt-is good board-good allowance = ⊎-elim (λ e. rw e) (λ e. rw e) (attempt-done-or-spent good board-good allowance)
 
 module _ {book : Book} {board : Board} (good : GoodBook book) (board-good : GoodBoard (book .kinds) board) (limit allowance : ℕ) where
@@ -45,7 +46,8 @@ module _ {book : Book} {board : Board} (good : GoodBook book) (board-good : Good
   -- the strip's run is the book's, with each attempt that takes more steps than allowed spent
   pub strip-run-cut : ran ≡ repeat (fireWithin book allowance) limit board 0 noRule
   unfolding runStrip
-  strip-run-cut = repeat-same (GoodBoard (book .kinds)) _ (fireWithin book allowance) (λ b g. attempt-is good g allowance) keeps limit board 0 noRule board-good
+  strip-run-cut = repeat-same (GoodBoard (book .kinds)) _ (fireWithin book allowance)
+      (λ b g. attempt-is good g allowance) keeps limit board 0 noRule board-good
 
   short-or-run : (ran ≡ run book limit board) ⊎ Stopped (λ b. isSpent (attempt (translate book) allowance b)) (fire book) limit board 0 noRule
   unfolding run
@@ -62,7 +64,8 @@ module _ {book : Book} {board : Board} (good : GoodBook book) (board-good : Good
   -- "the board is then that of the firings completed": a run that reports it has the board, firings and rule of the book's run with so many
   -- firings for its limit, which has come to that limit; they are fewer than the limit, and the attempt on that board is spent.
   pub strip-run-spent : ran .end ≡ Spent
-      → (ran .firings < limit) × (run book (ran .firings) board ≡ ended Limit (ran .board) (ran .firings) (ran .rule)) × (attempt (translate book) allowance (ran .board) ≡ spent)
+      → (ran .firings < limit) × (run book (ran .firings) board ≡ ended Limit (ran .board) (ran .firings) (ran .rule)) ×
+      (attempt (translate book) allowance (ran .board) ≡ spent)
   unfolding run
   strip-run-spent h =
       ⊎-elim (λ e. absurd (plain Spent e h))
@@ -77,7 +80,8 @@ module _ {book : Book} {board : Board} (good : GoodBook book) (board-good : Good
   unfolding run
   strip-run-spent-iff = (
     (λ h. let s = strip-run-spent h in (ran .firings, s .0, rw (s .1), rw (s .1) (s .2))),
-    λ s. rw strip-run-cut (short-spent (λ b. isSpent (attempt (translate book) allowance b)) (fire book) (s .0) limit board 0 noRule (s .1) (s .2) (rw (s .3))),
+    λ s. rw strip-run-cut (short-spent (λ b. isSpent (attempt (translate book) allowance b)) (fire book) (s .0) limit board 0 noRule (s .1) (s .2)
+        (rw (s .3))),
   )
 
   -- "a translated strip is never stuck"
@@ -90,14 +94,17 @@ module _ {book : Book} {board : Board} (good : GoodBook book) (board-good : Good
   -- SPENT never comes" (order 9): the strip's run is then the book's.
   pub strip-run-2^60-plain : 2 ^ 60 ≤ allowance → ran ≡ run book limit board
   unfolding runStrip run
-  strip-run-2^60-plain h = repeat-same (GoodBoard (book .kinds)) _ (λ b. done (fire book b)) (λ b g. attempt-2^60-enough good g allowance h) keeps limit board 0 noRule board-good
+  strip-run-2^60-plain h = repeat-same (GoodBoard (book .kinds)) _ (λ b. done (fire book b))
+      (λ b g. attempt-2^60-enough good g allowance h) keeps limit board 0 noRule board-good
 
   -- the boards that runs end with are well formed
   pub strip-run-keeps-good : GoodBoard (book .kinds) (ran .board)
   unfolding runStrip
   strip-run-keeps-good = repeat-keeps (GoodBoard (book .kinds)) _ keeps limit board 0 noRule board-good
 
-pub run-keeps-good : {book : Book} {board : Board} → GoodBook book → GoodBoard (book .kinds) board → (limit : ℕ) → GoodBoard (book .kinds) (run book limit board .board)
+pub run-keeps-good : {book : Book} {board : Board} → GoodBook book → GoodBoard (book .kinds) board → (limit : ℕ)
+    → GoodBoard (book .kinds) (run book limit board .board)
 unfolding run
 run-keeps-good {book} {board} good board-good limit =
-    repeat-keeps (GoodBoard (book .kinds)) (λ b. done (fire book b)) (λ b rule b′ g e. fire-keeps-good {number = rule} good g (cc)) limit board 0 noRule board-good
+    repeat-keeps (GoodBoard (book .kinds)) (λ b. done (fire book b)) (λ b rule b′ g e. fire-keeps-good {number = rule} good g
+    (cc)) limit board 0 noRule board-good

@@ -34,7 +34,15 @@ module _ (kinds : List Kind) (kinds-good : All GoodKind kinds) where
   unfolding sweepLength
   sweep-most {sweep} good =
       let g = good .group in
-      omega (arith, body-most (sweep .body) (sweep .tests) (g .bodyAtoms), head-most _ (sweep .heads) (g .headAtoms), g .bodySize, g .testsSize, g .headsSize)
+      omega (
+        arith,
+        body-most (sweep .body) (sweep .tests) (g .bodyAtoms),
+        head-most _ (sweep .heads)
+            (g .headAtoms),
+        g .bodySize,
+        g .testsSize,
+        g .headsSize,
+      )
 
   sweeps-most : (ruleBody : List Atom) (sweeps : List Sweep) → All (GoodSweep kinds ruleBody) sweeps → sweepsLength sweeps ≤ 50 * length sweeps
   unfolding sweepsLength
@@ -61,4 +69,10 @@ module _ (kinds : List Kind) (kinds-good : All GoodKind kinds) where
   rules-most r p [] good = omega arith
   rules-most r p (rule ∷ more) good =
       let rest = rules-most (suc r) (p + ruleLength rule) more (good .1) in
-      omega (arith, rule-most (good .0), length-ruleWords kinds r p rule, length-append (ruleWords kinds r p rule) (rulesWords kinds (suc r) (p + ruleLength rule) more))
+      omega (
+        arith,
+        rule-most (good .0),
+        length-ruleWords kinds r p rule,
+        length-append (ruleWords kinds r p rule)
+            (rulesWords kinds (suc r) (p + ruleLength rule) more),
+      )

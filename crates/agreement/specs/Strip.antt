@@ -20,7 +20,8 @@ use Rattle.agreement.specs.Lengths.{length-ruleWords}
 -- ---- kinds
 
 -- no rule begins with a KIND
-body-kinds : (c p back : ℕ) (bound : List ℕ) (atoms : List Atom) (tests : List Test) (rest : List Word) → stripKinds (bodyWords c p back bound atoms tests ++ (KEEP ∷ rest)) ≡ []
+body-kinds : (c p back : ℕ) (bound : List ℕ) (atoms : List Atom) (tests : List Test) (rest : List Word)
+    → stripKinds (bodyWords c p back bound atoms tests ++ (KEEP ∷ rest)) ≡ []
 unfolding bodyWords testWords
 body-kinds c p back bound [] [] rest = refl
 body-kinds c p back bound [] (t ∷ tests) rest = refl
@@ -79,7 +80,8 @@ module _ (kinds : List Kind) (kinds-good : All GoodKind kinds) (size : ℕ) wher
   abbrev Good : Word → Type 0
   Good = GoodWord (length kinds) size
 
-  arguments-good : (c i seek : ℕ) (bound : List ℕ) (terms : List Term) → c < cursorCount → i + length terms ≤ mostNumbers → seek < size → All (GoodTerm anyVariable) terms
+  arguments-good : (c i seek : ℕ) (bound : List ℕ) (terms : List Term) → c < cursorCount → i + length terms ≤ mostNumbers → seek < size
+      → All (GoodTerm anyVariable) terms
       → All Good (argumentWords c i seek bound terms)
   unfolding argumentWords
   arguments-good c i seek bound [] c-good i-good target good = tt
@@ -97,7 +99,8 @@ module _ (kinds : List Kind) (kinds-good : All GoodKind kinds) (size : ℕ) wher
       (((term-any bound (t .left) (good .0 .0), term-any bound (t .right) (good .0 .1)), target), tests-good seek bound tests target (good .1))
 
   body-good : (c p back : ℕ) (bound : List ℕ) (may : ℕ → Bool) (atoms : List Atom) (tests : List Test) → c + length atoms ≤ cursorCount → back < size
-      → p + bodyLength atoms tests ≤ size → All (GoodAtom kinds anyVariable) atoms → All (GoodTest may) tests → All Good (bodyWords c p back bound atoms tests)
+      → p + bodyLength atoms tests ≤ size → All (GoodAtom kinds anyVariable) atoms → All (GoodTest may) tests
+      → All Good (bodyWords c p back bound atoms tests)
   unfolding bodyWords bodyLength
   body-good c p back bound may [] tests room target fits good tests-ok = tests-good back may tests target tests-ok
   body-good c p back bound may (a ∷ atoms) tests room target fits good tests-ok = (
@@ -106,7 +109,8 @@ module _ (kinds : List Kind) (kinds-good : All GoodKind kinds) (size : ℕ) wher
       (omega arith, good .0 .declared, target),
       all-append Good (argumentWords c 0 (suc p) bound (a .terms)) _
           (arguments-good c 0 (suc p) bound (a .terms) (omega arith) (omega (arith, terms-most kinds kinds-good (good .0))) (omega arith) (good .0 .terms))
-          (body-good (suc c) (suc (suc p) + length (a .terms)) (suc p) (boundByTerms (a .terms) bound) may atoms tests (omega arith) (omega arith) (omega arith) (good .1) tests-ok),
+          (body-good (suc c) (suc (suc p) + length (a .terms)) (suc p) (boundByTerms (a .terms) bound) may atoms tests (omega arith) (omega arith)
+          (omega arith) (good .1) tests-ok),
     ),
   )
 
@@ -132,17 +136,20 @@ module _ (kinds : List Kind) (kinds-good : All GoodKind kinds) (size : ℕ) wher
       let rest = resume-within (suc (suc p) + length (a .terms)) (b ∷ atoms) tests in
       cases (isCard kinds (a .kind)) (λ y. rw y (omega arith)) (λ y. rw y (omega arith))
 
-  sweep-good : (c p : ℕ) (bound : List ℕ) {ruleBody : List Atom} {sweep : Sweep} → c + mostInSweep ≤ cursorCount → p + sweepLength sweep < size → GoodSweep kinds ruleBody sweep
+  sweep-good : (c p : ℕ) (bound : List ℕ) {ruleBody : List Atom} {sweep : Sweep} → c + mostInSweep ≤ cursorCount → p + sweepLength sweep < size
+      → GoodSweep kinds ruleBody sweep
       → All Good (sweepWords kinds c p bound sweep)
   unfolding sweepWords sweepLength
   sweep-good c p bound {sweep} room fits good =
       let g = good .group in
       let back = resume-within p (sweep .body) (sweep .tests) in
       all-append Good (bodyWords c p (p + sweepLength sweep) bound (sweep .body) (sweep .tests)) _
-      (body-good c p (p + sweepLength sweep) bound _ (sweep .body) (sweep .tests) (omega (arith, g .bodySize)) fits (omega arith) (g .bodyAtoms) (g .goodTests))
+      (body-good c p (p + sweepLength sweep) bound _ (sweep .body) (sweep .tests) (omega (arith, g .bodySize)) fits (omega arith) (g .bodyAtoms)
+      (g .goodTests))
       (tt, all-append Good (headWords (sweep .heads)) _ (heads-good _ (sweep .heads) (g .headAtoms)) (omega arith, tt))
 
-  sweeps-good : (ruleBody : List Atom) (c p : ℕ) (bound : List ℕ) (sweeps : List Sweep) → c + mostInSweep * length sweeps ≤ cursorCount → p + sweepsLength sweeps < size
+  sweeps-good : (ruleBody : List Atom) (c p : ℕ) (bound : List ℕ) (sweeps : List Sweep) → c + mostInSweep * length sweeps ≤ cursorCount
+      → p + sweepsLength sweeps < size
       → All (GoodSweep kinds ruleBody) sweeps → All Good (sweepsWords kinds c p bound sweeps)
   unfolding sweepsWords sweepsLength
   sweeps-good ruleBody c p bound [] room fits good = tt
@@ -182,7 +189,8 @@ translate-good {book} good =
     let kinds : List Kind = book .kinds in
     let code : List Word = rulesWords kinds 0 (length kinds) (book .rules) in
     let last = translate-last book in
-    let count : length (map kindWord kinds ++ code) ≡ length kinds + length code = length-append (map kindWord kinds) code ∙ ap (λ n. n + length code) (length-map kinds kindWord) in
+    let count : length (map kindWord kinds ++ code) ≡ length kinds + length code = length-append (map kindWord kinds) code ∙ ap (λ n. n + length code)
+    (length-map kinds kindWord) in
     record {
       kinds = kinds;
       others = code;

@@ -24,7 +24,8 @@ use Rattle.agreement.specs.Atoms.{stand, body-halves, body-exit, Rows, a
 use Rattle.agreement.specs.Bodies.{cost, search-body}
 
 -- steps for the words behind the tests are in a sweep's cost
-cost-more : (kinds : List Kind) (board : Board) (tests : List Test) (more : ℕ) (atoms : List Atom) → cost kinds board tests 0 atoms + more ≤ cost kinds board tests more atoms
+cost-more : (kinds : List Kind) (board : Board) (tests : List Test) (more : ℕ) (atoms : List Atom)
+    → cost kinds board tests 0 atoms + more ≤ cost kinds board tests more atoms
 unfolding cost
 cost-more kinds board tests more [] = omega arith
 cost-more kinds board tests more (a ∷ atoms) =
@@ -33,7 +34,8 @@ cost-more kinds board tests more (a ∷ atoms) =
     omega (arith, mul-le-mul-left (length (rowsOf board (isCard kinds (a .kind)))) row)
 
 -- what comes of more work is an outcome too, for many pieces of work as for one
-pub later-fold : (Outcome : (Work → Firing) → Type 0) {A : Type 0} (f : Work → A → Work) → ((k : Work → Firing) (x : A) → Outcome k → Outcome (λ work. k (f work x)))
+pub later-fold : (Outcome : (Work → Firing) → Type 0) {A : Type 0} (f : Work → A → Work)
+    → ((k : Work → Firing) (x : A) → Outcome k → Outcome (λ work. k (f work x)))
     → (k : Work → Firing) → Outcome k → (xs : List A) → Outcome (λ work. k (fold f work xs))
 unfolding fold
 later-fold Outcome f one k outcome [] = outcome
@@ -81,8 +83,10 @@ module _ (m : Machine) (good : GoodBoard (m .kinds) (m .board)) (tests : List Te
       → Leads m limit (stand target values cursors (taking .take work (some known))) (k (taking .take work (some known)))
       → Leads m (leaf + limit) (stand p values cursors work) (k (taking .take work (some known)))
 
-  module _ (a : Atom) (atoms : List Atom) (atoms-good : All (GoodAtom kinds anyVariable) (a ∷ atoms)) {c p back limit : ℕ} {bound : List ℕ} {before : Cursors}
-      {bindings : Bindings} {k : Work → Firing} (outcome : Outcome k) (bound-tests : All (GoodTest (λ x. mem x (boundBy atoms (boundByTerms (a .terms) bound)))) tests)
+  module _ (a : Atom) (atoms : List Atom) (atoms-good : All (GoodAtom kinds anyVariable)
+      (a ∷ atoms)) {c p back limit : ℕ} {bound : List ℕ} {before : Cursors}
+      {bindings : Bindings} {k : Work → Firing} (outcome : Outcome k)
+      (bound-tests : All (GoodTest (λ x. mem x (boundBy atoms (boundByTerms (a .terms) bound)))) tests)
       (room : c + suc (length atoms) ≤ cursorCount) (w : At m p (bodyWords c p back bound (a ∷ atoms) tests))
       (leave : Leaves c before bound bindings back limit k) where
     -- the pivot's rows
@@ -96,31 +100,38 @@ module _ (m : Machine) (good : GoodBoard (m .kinds) (m .board)) (tests : List Te
       fits = λ work r rest known v cu M h q ext same deep gives-up again.
           rw (pivots work r known q)
           (within {n = cost kinds board tests 0 atoms + (leaf + M)} (omega (arith, cost-more kinds board tests leaf atoms))
-          (search-body good tests atoms (atoms-good .1) (suc (suc p) + length (a .terms)) (λ o. after k a atoms bindings (taking .take work o) rest) bound-tests (omega arith)
+          (search-body good tests atoms (atoms-good .1) (suc (suc p) + length (a .terms))
+          (λ o. after k a atoms bindings (taking .take work o) rest) bound-tests (omega arith)
           (body-halves m c p back bound a atoms tests w .1) deep
           (λ v′ cu′ r′. rw (taking .still work) (within (omega arith) (gives-up v′ cu′ r′)))
           (λ known′ v′ cu′ ext′ same′ r′. let work′ : Work = taking .take work (some known′) in
           let idle : Idle 0 (work′ .used) cu′ = rw (taking .uses work known′) (ready-idle r′) in
-          rw (← (body-exit p a atoms tests)) (leaf-words M known′ v′ cu′ cu′ work (λ w′. after k a atoms bindings w′ rest) (later-rows a atoms bindings k outcome rest) r′
-          (again work′ v′ cu′ (idle-ready c (suc c) (omega arith) (ext v′ (ext′ v′ (r′ .loaded))) (λ i l. same′ i (omega arith) ∙ same i l) idle) (same′ c (omega arith)))))));
+          rw (← (body-exit p a atoms tests)) (leaf-words M known′ v′ cu′ cu′ work (λ w′. after k a atoms bindings w′ rest)
+          (later-rows a atoms bindings k outcome rest) r′
+          (again work′ v′ cu′ (idle-ready c (suc c) (omega arith) (ext v′ (ext′ v′ (r′ .loaded))) (λ i l. same′ i (omega arith) ∙ same i l) idle)
+          (same′ c (omega arith)))))));
     }
 
     by-rows : Rows m a c p back bound before (λ work. work) (knows bindings) (after k a atoms bindings) (cost kinds board tests leaf atoms) limit
         → (work : Work) (values : Values) (cursors : Cursors) → Ready c c before bound (knows bindings work) values cursors (work .used)
-        → Leads m (cost kinds board tests leaf (a ∷ atoms) + limit) (stand p values cursors work) (k (sweepAll kinds board tests taking (a ∷ atoms) bindings work))
+        → Leads m (cost kinds board tests leaf (a ∷ atoms) + limit) (stand p values cursors work)
+        (k (sweepAll kinds board tests taking (a ∷ atoms) bindings work))
     unfolding cost
     by-rows rows work values cursors r =
         rw (sweepAll-rows kinds board tests taking a atoms bindings work)
-        (within (omega arith) (atom-rows good a (atoms-good .0 .arity) (omega arith) (body-halves m c p back bound a atoms tests w .0) rows work values cursors r))
+        (within (omega arith) (atom-rows good a (atoms-good .0 .arity) (omega arith)
+        (body-halves m c p back bound a atoms tests w .0) rows work values cursors r))
 
   -- A SWEEP: its words go through all its choices
-  pub sweep-body : (a : Atom) (atoms : List Atom) → All (GoodAtom kinds anyVariable) (a ∷ atoms) → {c back limit : ℕ} (p : ℕ) {bound : List ℕ} {before cursors : Cursors}
+  pub sweep-body : (a : Atom) (atoms : List Atom) → All (GoodAtom kinds anyVariable) (a ∷ atoms)
+      → {c back limit : ℕ} (p : ℕ) {bound : List ℕ} {before cursors : Cursors}
       {bindings : Bindings} {values : Values} (work : Work) (k : Work → Firing) → Outcome k → All (GoodTest (λ x. mem x (boundBy (a ∷ atoms) bound))) tests
       → c + suc (length atoms) ≤ cursorCount → At m p (bodyWords c p back bound (a ∷ atoms) tests)
       → Leaf (p + bodyLength (a ∷ atoms) tests) (resume kinds p (a ∷ atoms)) (boundBy (a ∷ atoms) bound)
       → Ready c c before bound (knows bindings work) values cursors (work .used)
       → Leaves c before bound bindings back limit k
-      → Leads m (cost kinds board tests leaf (a ∷ atoms) + limit) (stand p values cursors work) (k (sweepAll kinds board tests taking (a ∷ atoms) bindings work))
+      → Leads m (cost kinds board tests leaf (a ∷ atoms) + limit) (stand p values cursors work)
+      (k (sweepAll kinds board tests taking (a ∷ atoms) bindings work))
   unfolding boundBy resume fold
   sweep-body a [] atoms-good p {cursors} {bindings} {values} work k outcome bound-tests room w leaf-words r leave =
       by-rows a [] atoms-good outcome bound-tests room w leave
@@ -142,6 +153,7 @@ module _ (m : Machine) (good : GoodBoard (m .kinds) (m .board)) (tests : List Te
             (idle-ready (suc c) (suc c) (omega arith) (deep .loaded) (deep .same)
             (rw (← (notice-keeps kinds board tests taking a (b ∷ atoms) bindings r work known notice q)) (ready-idle deep)))
             (λ w′ v′ cu′ r′. again w′ v′ cu′
-            (idle-ready c (suc c) (omega arith) (ext v′ (r′ .loaded)) (λ i l. r′ .same i (omega arith) ∙ same i l) (ready-idle r′)) (r′ .same c (omega arith))));
+            (idle-ready c (suc c) (omega arith) (ext v′ (r′ .loaded)) (λ i l. r′ .same i (omega arith) ∙ same i l) (ready-idle r′))
+            (r′ .same c (omega arith))));
       }))
       work values cursors r

@@ -57,7 +57,8 @@ pub each-if : {A : Type 0} (P : A → Type 0) (t : Bool) (o : Option A) → Each
 each-if P true o h = h
 each-if P false o h = tt
 
-pub each-bind : {A B : Type 0} (P : A → Type 0) (Q : B → Type 0) (o : Option A) (f : A → Option B) → Each P o → ((a : A) → P a → Each Q (f a)) → Each Q (o >>= f)
+pub each-bind : {A B : Type 0} (P : A → Type 0) (Q : B → Type 0) (o : Option A) (f : A → Option B) → Each P o → ((a : A) → P a → Each Q (f a))
+    → Each Q (o >>= f)
 each-bind P Q none f h g = tt
 each-bind P Q (some a) f h g = g a h
 

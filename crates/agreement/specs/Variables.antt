@@ -28,7 +28,8 @@ mem-terms x (variable y ∷ terms) bound = rw (mem-terms x terms _, mem-new x y 
 mem-atoms : (x : ℕ) (atoms : List Atom) (bound : List ℕ) → mem x (boundBy atoms bound) ≡ (mem x bound || occursIn x atoms)
 unfolding boundBy
 mem-atoms x [] bound = sym (or-false (mem x bound))
-mem-atoms x (a ∷ atoms) bound = rw (mem-atoms x atoms _, mem-terms x (a .terms) bound) (or-assoc (mem x bound) (occursInTerms x (a .terms)) (occursIn x atoms))
+mem-atoms x (a ∷ atoms) bound = rw (mem-atoms x atoms _, mem-terms x (a .terms) bound)
+    (or-assoc (mem x bound) (occursInTerms x (a .terms)) (occursIn x atoms))
 
 -- "A variable in a rule's test or head must occur in that rule's body; in a sweep's test or head, in the rule's body or that sweep's."
 group-bound : {kinds : List Kind} {most : ℕ} {body heads : List Atom} {tests : List Test} (may bound : ℕ → Bool) → ((x : ℕ) → bound x ≡ may x)
