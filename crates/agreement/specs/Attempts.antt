@@ -81,7 +81,7 @@ takes-le book board n n′ takes takes′ =
     cases (leb n n′) (leb-true n n′)
     (λ y. absurd (omega (arith, attempt-spent-iff book board n′ takes′ n′ .0 (attempt-spent-iff book board n takes n′ .1 (leb-false n n′ y)))))
 
--- there is one such number of steps
+-- "counted by the strip's own step rules": there is one such number of steps.
 pub takes-unique : (book : Book) (board : Board) (n n′ : ℕ) → Takes book board n → Takes book board n′ → n ≡ n′
 takes-unique book board n n′ takes takes′ = omega (arith, takes-le book board n n′ takes takes′, takes-le book board n′ n takes′ takes)
 
@@ -92,6 +92,7 @@ attempt-done-or-spent good board-good allowance =
     let takes = attempt-takes good board-good in
     cases (leb (takes .0) allowance) (λ y. inl (rw y at (takes .2 allowance))) (λ y. inr (rw y at (takes .2 allowance)))
 
+-- "ends with the answer and board of demand 2": what an attempt is done with is the book's firing.
 pub attempt-done : {book : Book} {board : Board} {firing : Firing} → GoodBook book → GoodBoard (book .kinds) board → (allowance : ℕ)
     → attempt (translate book) allowance board ≡ done firing → fire book board ≡ firing
 attempt-done good board-good allowance h = ⊎-elim (λ e. cc) (λ e. impossible (cc)) (attempt-done-or-spent good board-good allowance)

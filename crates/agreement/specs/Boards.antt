@@ -230,7 +230,8 @@ rules-leave {kinds} {board} good number (rule ∷ more) rules-good =
     (firstFit kinds board (rule .body) (rule .tests) nothingKnown)
     (firstFit-small good (rule .body) (rule .tests))
 
--- "The board that a run writes is accepted by the reader of its book": a firing of a well-formed book on a well-formed board leaves such a board.
+-- "If that exceeds 256 cards or 128 notices, the run ends with FULL and the firing hasn't happened": so a firing of a well-formed book on a
+-- well-formed board leaves a well-formed board.
 pub fire-keeps-good : {book : Book} {board board′ : Board} {number : ℕ} → GoodBook book → GoodBoard (book .kinds) board
     → fire book board ≡ fired number board′
     → GoodBoard (book .kinds) board′

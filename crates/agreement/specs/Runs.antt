@@ -43,7 +43,8 @@ module _ {book : Book} {board : Board} (good : GoodBook book) (board-good : Good
   keeps : Keeps (GoodBoard (book .kinds)) (attempt (translate book) allowance)
   keeps b rule b′ g e = fire-keeps-good good g (attempt-done good g allowance e)
 
-  -- the strip's run is the book's, with each attempt that takes more steps than allowed spent
+  -- "ends with the answer and board of demand 2, unless it reports the allowance spent": the strip's run is the book's, with each attempt spent
+  -- that takes more steps than allowed.
   pub strip-run-cut : ran ≡ repeat (fireWithin book allowance) limit board 0 noRule
   unfolding runStrip
   strip-run-cut = repeat-same (GoodBoard (book .kinds)) _ (fireWithin book allowance)
@@ -53,7 +54,7 @@ module _ {book : Book} {board : Board} (good : GoodBook book) (board-good : Good
   unfolding run
   short-or-run = rw strip-run-cut (short-or-whole (λ b. isSpent (attempt (translate book) allowance b)) (fire book) limit board 0 noRule)
 
-  -- "ends with the answer and board of demand 2, unless it reports the allowance spent"
+  -- So a run that does not end with SPENT is the book's, "the answer and board of demand 2".
   pub strip-run-plain : (ran .end ≡ Spent → ⊥) → ran ≡ run book limit board
   strip-run-plain not-spent = ⊎-elim (λ e. e) (λ s. absurd (not-spent (ap (λ r. r .end) (strip-run-cut ∙ s .after)))) short-or-run
 
@@ -80,15 +81,13 @@ module _ {book : Book} {board : Board} (good : GoodBook book) (board-good : Good
   unfolding run
   strip-run-spent-iff = (
     (λ h. let s = strip-run-spent h in (ran .firings, s .0, rw (s .1), rw (s .1) (s .2))),
-    λ s. rw strip-run-cut (short-spent (λ b. isSpent (attempt (translate book) allowance b)) (fire book) (s .0) limit board 0 noRule (s .1) (s .2)
-        (rw (s .3))),
+    λ s. rw strip-run-cut
+        (short-spent (λ b. isSpent (attempt (translate book) allowance b)) (fire book) (s .0) limit board 0 noRule (s .1) (s .2) (rw (s .3))),
   )
 
   -- "a translated strip is never stuck"
   pub strip-run-not-stuck : ran .end ≡ Stuck → ⊥
-  strip-run-not-stuck h =
-      ⊎-elim (λ e. plain Stuck e h)
-      (λ s. impossible (cc (ap (λ r. r .end) (strip-run-cut ∙ s .after)))) short-or-run
+  strip-run-not-stuck h = ⊎-elim (λ e. plain Stuck e h) (λ s. impossible (cc (ap (λ r. r .end) (strip-run-cut ∙ s .after)))) short-or-run
 
   -- "Prove that for every accepted book and board a translated strip ends an attempt within 2 to the power 60 steps, so that with that allowance
   -- SPENT never comes" (order 9): the strip's run is then the book's.
@@ -97,14 +96,15 @@ module _ {book : Book} {board : Board} (good : GoodBook book) (board-good : Good
   strip-run-2^60-plain h = repeat-same (GoodBoard (book .kinds)) _ (λ b. done (fire book b))
       (λ b g. attempt-2^60-enough good g allowance h) keeps limit board 0 noRule board-good
 
-  -- the boards that runs end with are well formed
+  -- "these write the board as of the last completed firing": a strip's run leaves a well-formed board
   pub strip-run-keeps-good : GoodBoard (book .kinds) (ran .board)
   unfolding runStrip
   strip-run-keeps-good = repeat-keeps (GoodBoard (book .kinds)) _ keeps limit board 0 noRule board-good
 
+-- and so does a book's run.
 pub run-keeps-good : {book : Book} {board : Board} → GoodBook book → GoodBoard (book .kinds) board → (limit : ℕ)
     → GoodBoard (book .kinds) (run book limit board .board)
 unfolding run
 run-keeps-good {book} {board} good board-good limit =
-    repeat-keeps (GoodBoard (book .kinds)) (λ b. done (fire book b)) (λ b rule b′ g e. fire-keeps-good {number = rule} good g
-    (cc)) limit board 0 noRule board-good
+    repeat-keeps (GoodBoard (book .kinds)) (λ b. done (fire book b))
+    (λ b rule b′ g e. fire-keeps-good {number = rule} good g (cc)) limit board 0 noRule board-good

@@ -41,7 +41,7 @@ pub translate-kinds : (book : Book) → stripKinds (translate book) ≡ book .ki
 unfolding translate
 translate-kinds book = kinds-first (book .kinds) _ (rules-kinds (book .kinds) 0 (length (book .kinds)) (book .rules))
 
--- a board is well formed for the strip's kinds exactly if it is for the book's
+-- "run on any accepted board of that book": a board is well formed for the strip's kinds exactly if it is for the book's.
 pub translate-same-boards : (book : Book) (board : Board) → GoodBoard (stripKinds (translate book)) board ↔ GoodBoard (book .kinds) board
 translate-same-boards book board = ((λ h. rw (translate-kinds book) at h), λ h. rw (translate-kinds book) h)
 
@@ -182,7 +182,7 @@ module _ (kinds : List Kind) (kinds-good : All GoodKind kinds) (size : ℕ) wher
       all-append Good (ruleWords kinds r p rule) rest (rule-good r p rule (omega arith) (omega arith) (good .0))
       (rules-good (suc r) (p + ruleLength rule) more (omega arith) all (good .1))
 
--- "a translation gives 0 and the strip's length, writes the strip": the strip of a well-formed book is a well-formed strip, of at most 44,808 bytes.
+-- "Longest book 17,794 bytes, board 4,226, strip 44,808": the strip of a well-formed book is a well-formed strip, within that size.
 pub translate-good : {book : Book} → GoodBook book → GoodStrip (translate book)
 unfolding translate
 translate-good {book} good =
