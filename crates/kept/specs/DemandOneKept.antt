@@ -1,27 +1,26 @@
 -- Demand 1 is kept: each promise of crates/promises under 'DEMAND 1', from the laws of files (crates/encoding, crates/book_encoding) and of boards
 -- that stay good (crates/firings).
-use Prim.Native.Nat.{ℕ, suc, _+_, _*_, _≤_, _<_}
+use Prim.Native.Nat.{ℕ, _≤_}
 use native.Mathlib.Omega.{arith}
-use mathlib.Core.Path.{_≡_, refl, sym, ap, _∙_, subst}
+use mathlib.Core.Path.{_≡_, refl, sym, subst}
 use mathlib.Core.Bool.{Bool, true, false}
-use mathlib.Core.List.{List, []}
-use lib.ListN.{length, drop}
+use mathlib.Core.List.{List}
+use lib.ListN.{length}
 use lib.Dec.{ltb}
 use borrow.Author.Tests.{lt-ltb, le-ltb}
-use Rattle.meaning.specs.Basics.{if_then_else_, All}
-use Rattle.meaning.specs.Facts.{Kind, Board, mostKinds, longestBoard, longestStrip}
+use Rattle.meaning.specs.Basics.{if_then_else_}
+use Rattle.meaning.specs.Facts.{Kind, Board, longestBoard, longestStrip}
 use Rattle.meaning.specs.Rules.{Book}
 use Rattle.meaning.specs.Firing.{End, Quiet, Limit, Full, Spent, Stuck, Ran, run}
 use Rattle.meaning.specs.Words.{Word, stripKinds, runStrip}
-use Rattle.meaning.specs.WellFormed.{GoodBook, GoodBoard, GoodStrip}
-use Rattle.files.specs.Numbers.{Refusal, refusalNumber, CUT, MARK, PLACE, NOCARD, BARE, MANY, FIELD, LOOSE, TRAIL, SHORT, STRIP, File, book, strip, board, output, Answer, refusal, acceptance, endNumber}
-use Rattle.files.specs.Judge.{Bytes, Verdict, accepted, refused}
+use Rattle.meaning.specs.WellFormed.{GoodBoard}
+use Rattle.files.specs.Numbers.{Refusal, SHORT, File, book, strip, board, output, refusal, endNumber}
+use Rattle.files.specs.Judge.{Verdict, accepted, refused}
 use Rattle.files.specs.Board.{judgeBoard}
 use Rattle.files.specs.Book.{judgeBook}
 use Rattle.files.specs.Strip.{judgeStrip}
-use Rattle.files.specs.Encode.{encodeBoard, encodeStrip}
 use Rattle.files.specs.Entries.{Outcome, nothingWritten, bytesAfter, ifAccepted, ifRoom, runOutcome, runBookFile, translateFile, runStripFile}
-use Rattle.promises.specs.Promises.{IsRefusal, KeepsAll, RefusedKeepsAll, RefusalsKeepTheOutput, JudgesForItself, EntriesJudge, GoodKinds, AcceptedExactly, FilesAreEncodings, SizesHold, ReadInPlace, WritesABoard, RunsWriteBoards, DemandOne}
+use Rattle.promises.specs.Promises.{IsRefusal, KeepsAll, RefusalsKeepTheOutput, EntriesJudge, GoodKinds, FilesAreEncodings, SizesHold, ReadInPlace, WritesABoard, RunsWriteBoards, DemandOne}
 use Rattle.encoding.specs.Boards.{board-exactly, board-unique, board-in-place, board-encoded, board-accepted, board-size}
 use Rattle.encoding.specs.Strips.{strip-exactly, strip-unique, strip-in-place, strip-length, strip-accepted}
 use Rattle.encoding.specs.Steps.{strip-kinds-good}
@@ -29,7 +28,9 @@ use Rattle.book_encoding.specs.Encoded.{book-file, book-unique}
 use Rattle.book_encoding.specs.Accepted.{book-accepted}
 use Rattle.book_encoding.specs.Placed.{book-in-place}
 use Rattle.book_encoding.specs.Sized.{book-size}
+use Rattle.firings.specs.Keeping.{run-keeps-good}
 use Rattle.kept.specs.Places.{places-are-in-the-file}
+use Rattle.kept.specs.StripBoards.{strip-run-keeps-good}
 
 -- ---- a refusal writes nothing and says nothing; no end and no acceptance looks like one
 
@@ -116,4 +117,57 @@ read-in-place = record {
   books = λ file bytes b e. book-in-place file b bytes e .0;
   boards = λ kinds file good bytes rows e. board-in-place kinds file rows e;
   strips = λ file bytes words e. strip-in-place file words e;
+}
+
+-- ---- what a run writes
+
+-- with accepted files and room an entry is the run
+pub run-book-is : (bookFile boardFile : List ℕ) (limit room : ℕ) (b : Book) (rows : Board) → judgeBook bookFile ≡ accepted b
+    → judgeBoard (b .kinds) boardFile ≡ accepted rows → longestBoard ≤ room → runBookFile bookFile boardFile limit room ≡ runOutcome (run b limit rows)
+unfolding runBookFile
+run-book-is bookFile boardFile limit room b rows e h l = rw (e, h, le-ltb room longestBoard l)
+
+pub run-strip-is : (stripFile boardFile : List ℕ) (limit allowance room : ℕ) (words : List Word) (rows : Board) → judgeStrip stripFile ≡ accepted words
+    → judgeBoard (stripKinds words) boardFile ≡ accepted rows → longestBoard ≤ room
+    → runStripFile stripFile boardFile limit allowance room ≡ runOutcome (runStrip words limit allowance rows)
+unfolding runStripFile
+run-strip-is stripFile boardFile limit allowance room words rows e h l = rw (e, h, le-ltb room longestBoard l)
+
+writes : (kinds : List Kind) → GoodKinds kinds → (ran : Ran) → GoodBoard kinds (ran .board) → (out : List ℕ) → longestBoard ≤ length out
+    → WritesABoard kinds (runOutcome ran) out
+unfolding bytesAfter
+writes kinds k ran g out l = record {
+  after = ran .board;
+  goesBackIn = board-encoded kinds (ran .board) g;
+  itsLength = refl;
+  fits = omega (arith, board-size kinds (ran .board) (k .1) g);
+  kept = refl;
+}
+
+-- a board that a run writes is accepted again, and the bytes past it are kept
+pub runs-write-boards : RunsWriteBoards
+runs-write-boards = record {
+  runBook = λ bookFile boardFile out limit b rows bytes bytes′ e h l.
+      let good = book-accepted bookFile b bytes e .0 in
+      let rowsGood = board-accepted (b .kinds) boardFile rows bytes′ h .0 in
+      subst (λ (o : Outcome). WritesABoard (b .kinds) o out) (sym (run-book-is bookFile boardFile limit (length out) b rows e h l))
+      (writes (b .kinds) (good .kindsSize, good .kinds) (run b limit rows) (run-keeps-good b good limit rows rowsGood) out l);
+  runStrip = λ stripFile boardFile out limit allowance words rows bytes bytes′ e h l.
+      let good = strip-accepted stripFile words bytes e .0 in
+      let rowsGood = board-accepted (stripKinds words) boardFile rows bytes′ h .0 in
+      subst (λ (o : Outcome). WritesABoard (stripKinds words) o out) (sym (run-strip-is stripFile boardFile limit allowance (length out) words rows e h l))
+      (writes (stripKinds words) (strip-kinds-good words good) (runStrip words limit allowance rows)
+      (strip-run-keeps-good words good limit allowance rows rowsGood) out l);
+}
+
+-- DEMAND 1
+pub demand-one : DemandOne
+demand-one = record {
+  refusalsKeepTheOutput = refusals-keep-the-output;
+  placesAreInTheFile = places-are-in-the-file;
+  entriesJudge = entries-judge;
+  filesAreEncodings = files-are-encodings;
+  sizesHold = sizes-hold;
+  readInPlace = read-in-place;
+  runsWriteBoards = runs-write-boards;
 }

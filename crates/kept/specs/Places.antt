@@ -2,18 +2,18 @@
 -- keeps that, so a record does, and so the loop over records.
 use Prim.Native.Nat.{ℕ, zero, suc, _+_, _*_, _-_, _/_, _%_, _≤_, _<_}
 use native.Mathlib.Omega.{arith}
-use mathlib.Core.Path.{_≡_, refl, sym, ap, _∙_}
-use mathlib.Core.Logic.{_⊎_, inl, inr}
+use mathlib.Core.Path.{refl}
+use mathlib.Core.Logic.{inl, inr}
 use mathlib.Core.Bool.{Bool, true, false, _&&_, not, _||_}
 use mathlib.Core.List.{List, [], _∷_, _++_}
 use lib.ListN.{length}
 use lib.Dec.{eqb, leb, ltb}
 use Rattle.meaning.specs.Basics.{if_then_else_}
-use Rattle.meaning.specs.Facts.{Kind, Fact, Board, mostKinds, mostRules, mostInRule, mostSweeps, variables, mostNumbers, mostCards, mostNotices, longestStrip, arityOf}
-use Rattle.meaning.specs.Rules.{Term, constant, variable, Atom, Book}
+use Rattle.meaning.specs.Facts.{Kind, Fact, Board, mostKinds, mostRules, mostSweeps, variables, mostNumbers, mostCards, mostNotices, longestStrip, arityOf}
+use Rattle.meaning.specs.Rules.{Term, constant, variable, Atom}
 use Rattle.meaning.specs.Words.{Word}
 use Rattle.meaning.specs.WellFormed.{anyVariable}
-use Rattle.files.specs.Numbers.{Refusal, CUT, MARK, PLACE, NOCARD, BARE, MANY, FIELD, LOOSE, TRAIL, STRIP}
+use Rattle.files.specs.Numbers.{Refusal, PLACE, NOCARD, BARE, MANY, FIELD, LOOSE, STRIP}
 use Rattle.files.specs.Judge.{Verdict, accepted, refused, Judged, go, ended, stop, demand, byte, two, atEnd, afterRecord, judge}
 use Rattle.files.specs.Board.{Mark, ca, no, en, other, isEmpty, isOfClass, numbers, row, marked, markOf, boardRecord, emptyBoard, judgeBoard}
 use Rattle.files.specs.Book as B

@@ -2,7 +2,7 @@
 -- 16-bit numbers; and FIRE looks for room. One law a word, then an attempt, then the run.
 use Prim.Native.Nat.{ℕ, zero, suc, _<_}
 use native.Mathlib.Omega.{arith}
-use mathlib.Core.Path.{_≡_, refl, sym, ap, _∙_, subst}
+use mathlib.Core.Path.{_≡_, refl, sym, _∙_, subst}
 use mathlib.Core.Logic.{_⊎_, inl, inr}
 use mathlib.Core.Bool.{Bool, true, false}
 use mathlib.Core.Option.{Option, none, some, Option·some-injective}
@@ -13,8 +13,8 @@ use Rattle.meaning.specs.Basics.{if_then_else_, _>>=_, change, All}
 use Rattle.meaning.specs.Facts.{Kind, Fact, Board, numberLimit, isCard, arityOf, rowsOf}
 use Rattle.meaning.specs.Rules.{Term, constant, variable, Values, valueOf, holds}
 use Rattle.meaning.specs.Fit.{mayStand}
-use Rattle.meaning.specs.Firing.{Work, boardAfter, hasRoom, settle, Firing, quiet, full, fired, Attempt, done, spent, stuck, Ran, ended, goOn, repeat, noRule}
-use Rattle.meaning.specs.Words.{Word, KIND, OPEN, SEEK, BIND, SAME, LIT, TEST, KEEP, PUT, ARG, JUMP, FIRE, QUIET, Cursor, opened, on, past, State, state, Stepped, going, ends, stripKinds, rowUnder, argumentUnder, madeHasRoom, setNumber, onLast, orStuck, seekFrom, goneFor, sought, nextIf, execute, executeAt, step, start, goOnFrom, attemptFrom, attempt, runStrip}
+use Rattle.meaning.specs.Firing.{Work, boardAfter, hasRoom, settle, quiet, full, fired, Attempt, done, spent, stuck, goOn, repeat, noRule}
+use Rattle.meaning.specs.Words.{Word, KIND, OPEN, SEEK, BIND, SAME, LIT, TEST, KEEP, PUT, ARG, JUMP, FIRE, QUIET, Cursor, opened, on, past, State, Stepped, going, ends, stripKinds, argumentUnder, madeHasRoom, setNumber, onLast, orStuck, seekFrom, goneFor, sought, nextIf, execute, executeAt, step, start, goOnFrom, attemptFrom, attempt, runStrip}
 use Rattle.meaning.specs.WellFormed.{GoodTerm, anyVariable, GoodWord, GoodStrip, GoodFact, GoodBoard}
 use Rattle.meaning.specs.Translation.{kindWord}
 use Rattle.encoding.specs.Steps.{strip-kinds}
