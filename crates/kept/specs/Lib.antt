@@ -1,3 +1,4 @@
 pub mod Places
 pub mod StripBoards
 pub mod DemandOneKept
+pub mod DemandThreeKept

@@ -337,6 +337,7 @@ pub record TakesTooMany (b : Book) (bookFile boardFile : List ℕ) (limit allowa
   pub last : ℕ
   pub reached : runBookFile bookFile boardFile completed room
       ≡ record { answer = endAnswer Limit (length (encodeBoard rows)) completed last; written = encodeBoard rows }
+  pub isBoard : judgeBoard (b .kinds) (encodeBoard rows) ≡ accepted rows
   pub steps : ℕ
   pub takes : TakesSteps b rows steps
   pub tooMany : allowance < steps
