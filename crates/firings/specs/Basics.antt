@@ -1,4 +1,5 @@
--- Laws of conditions, membership and lists that the other files share; each by induction on the list, or by the two cases of a condition.
+-- Laws of conditions, membership and lists that the other files share. Each is an induction on a list or on a membership, or goes by the two cases of
+-- a condition.
 use mathlib.Core.Path.{_≡_, refl, sym, ap, subst}
 use mathlib.Core.Logic.{_⊎_, inl, inr}
 use Prim.Native.Nat.{ℕ, zero, suc, _<_}

@@ -1,4 +1,5 @@
--- Laws of the card rows of a choice: which rows are fresh, which are marked, which are gone after a choice, and whether it has any.
+-- Laws of the card rows of a choice: which rows are fresh, which are marked, which are gone after a choice, and whether it has any. By induction on
+-- the rows, each taken or not by its atom's class.
 use mathlib.Core.Path.{_≡_, refl, sym, ap, _∙_, fun-ext}
 use mathlib.Core.Logic.{inl, inr, _↔_, ⊎-elim}
 use Prim.Native.Nat.{ℕ}
@@ -78,6 +79,7 @@ pub gone-cons : (kinds : List Kind) (a : Atom) (atoms : List Atom) (r : Row) (ro
 gone-cons kinds a atoms r rows gone =
     fun-ext λ n. cases (isCard kinds (a .kind)) (λ y. rw y (or-assoc (gone n) (eqb n (r .at)) (mem n (cardRows kinds atoms rows)))) (λ y. rw y)
 
+-- "a sweep's body may be all notices"
 abbrev pub AllNotices : List Kind → List Atom → Type 0
 AllNotices kinds atoms = All (λ a. isCard kinds (a .kind) ≡ false) atoms
 

@@ -124,7 +124,7 @@ ascending-once (x ∷ cs) p zero (suc j) {c} h k = absurd (before-self x (p .0 x
 ascending-once (x ∷ cs) p (suc i) zero {c} h k = absurd (before-self x (p .0 x (Memᴰ·cast (Option·some-injective x c k) (at-in cs i h))))
 ascending-once (x ∷ cs) p (suc i) (suc j) h k = ap suc (ascending-once cs (p .1) i j h k)
 
--- So each choice stands in one place only.
+-- "goes through all choices": each choice stands in one place only, so each is met once.
 pub choice-stands-once : (kinds : List Kind) (board : Board) (atoms : List Atom) (i j : ℕ) {c : Choice}
     → getElem? (choices kinds board atoms) i ≡ some c → getElem? (choices kinds board atoms) j ≡ some c → i ≡ j
 choice-stands-once kinds board atoms = ascending-once (choices kinds board atoms) (choices-ascending kinds board atoms)

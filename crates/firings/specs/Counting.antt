@@ -1,4 +1,5 @@
--- Multi-sets, by counting; and the rows that marks leave and take. Each step is one `omega` over the counts of one fact.
+-- Multi-sets, by counting, "with equal cards counted apart"; and the rows that marks leave and take. By induction on the rows, each step one `omega`
+-- over the counts of one fact.
 use mathlib.Core.Path.{_≡_, refl, ap, ap₂}
 use Prim.Native.Nat.{ℕ, zero, suc, _+_, _<_}
 use native.Mathlib.Nat.{add-zero, add-suc, suc-add}

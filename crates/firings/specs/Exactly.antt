@@ -144,6 +144,6 @@ module _ (book : Book) (good : GoodBook book) (board : Board) where
         fire-settles (first-of v) (v .work) (v .swept) ∙ rw (room, v .after),
   )
 
-  -- FULL, exactly where the first rule with a fitting choice would overfill the board.
+  -- "If that exceeds 256 cards or 128 notices": a firing is full exactly where the first rule with a fitting choice would overfill the board.
   pub full-exactly-if-full-is : (fire book board ≡ full) ↔ FullIs book board
   full-exactly-if-full-is = (full-is book good board, λ v. fire-settles (v .would) (v .work) (v .swept) ∙ rw (v .noRoom))

@@ -145,7 +145,7 @@ after-good kinds board work good made room =
     }
 
 module _ (book : Book) (good : GoodBook book) where
-  -- A firing of a good book on a good board leaves a good board.
+  -- "Each fact has a kind and 0 to 4 numbers of 16 bits." "Board: 256 cards, 128 notices." A firing of a good book on a good board leaves a good board.
   pub firing-keeps-good : {board next : Board} {number : ℕ}
       → GoodBoard (book .kinds) board → fire book board ≡ fired number next → GoodBoard (book .kinds) next
   firing-keeps-good {board} {next} {number} b h =
@@ -159,6 +159,6 @@ module _ (book : Book) (good : GoodBook book) where
   firings-keep-good no-more b = b
   firings-keep-good (fires-then h f l) b = firings-keep-good l (firing-keeps-good b h)
 
-  -- So does a run.
+  -- So the board that a run ends with is a good board too.
   pub run-keeps-good : (limit : ℕ) (board : Board) → GoodBoard (book .kinds) board → GoodBoard (book .kinds) (run book limit board .board)
   run-keeps-good limit board b = firings-keep-good (run-is book good limit board .sequence) b

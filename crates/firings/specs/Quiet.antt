@@ -223,6 +223,6 @@ module _ (book : Book) (board : Board) where
           λ h. q .1 (⊎-elim (λ w. w .0) (λ w. absurd (h _ _ _ (meld-by book good board (w .0) .stepped))) l),
         )
 
-    -- Where Meld allows a step, the firing is not quiet.
+    -- A runner "that answers QUIET for everything" is shut out: where Meld allows a step, the firing is not quiet.
     pub step-not-quiet : {Γ′ Δ′ Ξ : List Fact} → Allows book board Γ′ Δ′ Ξ → fire book board ≡ quiet → ⊥
     step-not-quiet {Γ′} {Δ′} {Ξ} s h = quiet-exactly-if-no-step .0 h Γ′ Δ′ Ξ s

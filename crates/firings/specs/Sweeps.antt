@@ -1,4 +1,5 @@
--- A whole sweep, and the sweeps of a rule one after another: `SweepDone` gathers what follows from a sweep's going through its choices.
+-- A whole sweep, and the sweeps of a rule one after another: `SweepDone` gathers what follows from a sweep's going through its choices, and the program
+-- does each so.
 use mathlib.Core.Path.{_≡_, sym, ap, _∙_}
 use mathlib.Core.Logic.{_↔_}
 use Prim.Native.Nat.{ℕ}
