@@ -3,7 +3,7 @@
 use mathlib.Core.Path.{_≡_, refl, sym, ap, ap₂, _∙_}
 use mathlib.Core.Logic.{_↔_, Iff·rfl, Iff·symm, Iff·trans, Iff·and}
 use Prim.Native.Nat.{ℕ}
-use mathlib.Core.Bool.{Bool, true, false, _&&_, _||_, false≢true, true≢false, or-assoc, or-false, or-true}
+use mathlib.Core.Bool.{Bool, true, false, _||_, false≢true, true≢false, or-assoc, or-false, or-true, _&&_}
 use mathlib.Core.Option.{Option, none, some, Option·some-injective, Option·none-ne-some}
 use mathlib.Core.List.{List, [], _∷_, map, nil≢cons, cons≢nil, cons-eq-cons}
 use lib.Dec.{eqb}
@@ -15,18 +15,11 @@ use Rattle.meaning.specs.Fit.{Row, Choice, Marks, Bindings, Known, lookup, orZe
 use Rattle.meaning.specs.Fit.{agreeVariable, agree, agreeAll, free, takeRow, mayStand, fitRow, holdAll, fit}
 use Rattle.meaning.specs.Firing.{headFact}
 use Rattle.meaning.specs.WellFormed.{GoodTerm, GoodTest}
+pub use Rattle.promises.specs.Promises.{isSome, isBound}
 use Rattle.firings.specs.Basics.{cases, both, all-map, equal-facts}
 use Rattle.firings.specs.CardRows.{goneAfter, gone-nil, gone-cons}
 
 -- ---- bindings
-
-abbrev isSome : Option ℕ → Bool
-isSome none = false
-isSome (some v) = true
-
--- has the variable a value
-abbrev pub isBound : Bindings → ℕ → Bool
-isBound bindings x = isSome (lookup x bindings)
 
 pub unbound-zero : (bindings : Bindings) (x : ℕ) → isBound bindings x ≡ false → valuesOf bindings x ≡ 0
 unbound-zero bindings x h = go (lookup x bindings) h

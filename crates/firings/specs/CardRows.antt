@@ -8,11 +8,12 @@ use mathlib.Core.List.{List, [], _∷_, _++_, Memᴰ·cast}
 use mathlib.Core.List.{List·Memᴰ·head, List·Memᴰ·tail, List·Memᴰ·cases-cons, List·Memᴰ·append-cases}
 use lib.Dec.{eqb}
 use borrow.Author.Tests.{eq-eqb, ne-eqb, not-true}
-use Rattle.meaning.specs.Basics.{if_then_else_, mem, In, All}
+use Rattle.meaning.specs.Basics.{if_then_else_, mem, In}
 use Rattle.meaning.specs.Facts.{Kind, isCard}
 use Rattle.meaning.specs.Rules.{Atom, Values}
 use Rattle.meaning.specs.Fit.{Row, Choice, Marks, mark, free, takeRow, cardRows, Apart, Unused, AtomsEqual}
 use Rattle.meaning.specs.WellFormed.{HasCard}
+pub use Rattle.promises.specs.Promises.{AllNotices}
 use Rattle.firings.specs.Basics.{cases, neither, in-mem, mem-append}
 
 -- ---- fresh rows
@@ -78,10 +79,6 @@ pub gone-cons : (kinds : List Kind) (a : Atom) (atoms : List Atom) (r : Row) (ro
     → goneAfter kinds atoms rows (takeRow (isCard kinds (a .kind)) (r .at) gone) ≡ goneAfter kinds (a ∷ atoms) (r ∷ rows) gone
 gone-cons kinds a atoms r rows gone =
     fun-ext λ n. cases (isCard kinds (a .kind)) (λ y. rw y (or-assoc (gone n) (eqb n (r .at)) (mem n (cardRows kinds atoms rows)))) (λ y. rw y)
-
--- "a sweep's body may be all notices"
-abbrev pub AllNotices : List Kind → List Atom → Type 0
-AllNotices kinds atoms = All (λ a. isCard kinds (a .kind) ≡ false) atoms
 
 -- a body with a card atom has a card row, and one without has none
 pub card-row : (kinds : List Kind) (values : Values) (atoms : List Atom) (rows : Choice) → HasCard kinds atoms → AtomsEqual values atoms rows

@@ -14,6 +14,7 @@ use Rattle.meaning.specs.Basics.{orElse, first, In}
 use Rattle.meaning.specs.Facts.{Kind, Fact, Board, isCard, rowsOf}
 use Rattle.meaning.specs.Rules.{Atom, Test}
 use Rattle.meaning.specs.Fit.{Row, Choice, IsChoice, Fits, Before, Known, fit, numbered, spread, choices, firstFit}
+pub use Rattle.promises.specs.Promises.{Ascending}
 use Rattle.firings.specs.Basics.{at-in}
 use Rattle.firings.specs.Answers.{BoundTests}
 use Rattle.firings.specs.Fitting.{FitGives, fit-gives, none-exactly-if-not-fits}
@@ -78,11 +79,6 @@ before-asymmetric (r ∷ c) (s ∷ d) (inr h) (inr k) = before-asymmetric c d (h
 
 before-self : (c : Choice) → Before c c → ⊥
 before-self c h = before-asymmetric c c h h
-
--- each comes before all that follow
-abbrev pub Ascending : List Choice → Type 0
-Ascending [] = Unit {0}
-Ascending (c ∷ cs) = ((d : Choice) → In d cs → Before c d) × Ascending cs
 
 ascending-append : (cs ds : List Choice) → Ascending cs → Ascending ds → ((c d : Choice) → In c cs → In d ds → Before c d) → Ascending (cs ++ ds)
 ascending-append [] ds p q h = q

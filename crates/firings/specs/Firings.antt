@@ -12,21 +12,18 @@ use lib.ListN.{getElem?}
 use Rattle.meaning.specs.Basics.{All}
 use Rattle.meaning.specs.Facts.{Kind, Fact, Board}
 use Rattle.meaning.specs.Rules.{Rule, Book}
-use Rattle.meaning.specs.Fit.{Choice, Marks, noMarks, IsChoice, cardRows, Apart, Fits, Known, nothingKnown, firstFit}
+use Rattle.meaning.specs.Fit.{Marks, noMarks, cardRows, Apart, Known, nothingKnown, firstFit}
 use Rattle.meaning.specs.Firing.{Work, headFacts, bodyWork, ruleWork, unusedRows, ofClass, boardAfter, hasRoom}
 use Rattle.meaning.specs.Firing.{Firing, quiet, full, fired, settle, fireRule, fireFrom, fire}
 use Rattle.meaning.specs.Meld.{count, Apply, Step, rule-app, ruleForm}
 use Rattle.meaning.specs.WellFormed.{GoodRule, GoodBook}
+pub use Rattle.promises.specs.Promises.{NoneFits}
 use Rattle.firings.specs.Basics.{cases, all-at, at-in}
 use Rattle.firings.specs.Choosing.{FirstChoice, first-fit-is-first, none-first-exactly-if-none-fits}
 use Rattle.firings.specs.CardRows.{Marked, marked-append, fresh-append}
 use Rattle.firings.specs.Sweeps.{RuleDone, rowsOfSweeps, factsOfSweeps, sweeps-fresh, sweeps-make, sweeps-done}
 use Rattle.firings.specs.Counting.{count-append, usedRows, unused-and-used}
 use Rattle.firings.specs.Allowed.{rule-applied}
-
--- no choice of rows fits the rule
-abbrev pub NoneFits : List Kind → Board → Rule → Type 0
-NoneFits kinds board rule = (c : Choice) → IsChoice kinds board (rule .body) c → Fits kinds (rule .body) (rule .tests) c [] noMarks → ⊥
 
 -- ---- what is found
 

@@ -5,39 +5,20 @@ use mathlib.Core.Logic.{_↔_, ⊎-elim}
 use Prim.Native.Nat.{ℕ}
 use mathlib.Core.Bool.{false, true≢false, or-false}
 use mathlib.Core.Option.{Option, none, some}
-use mathlib.Core.List.{List, [], _∷_, _++_, map, append-assoc, append-nil}
+use mathlib.Core.List.{List, [], _∷_, _++_, append-assoc, append-nil}
 use mathlib.Core.List.{List·Memᴰ·head, List·Memᴰ·tail, List·Memᴰ·not-nil, List·Memᴰ·cases-cons}
 use Rattle.meaning.specs.Basics.{fold, mem, In}
-use Rattle.meaning.specs.Facts.{Kind, Fact}
-use Rattle.meaning.specs.Rules.{Atom, Sweep}
+use Rattle.meaning.specs.Facts.{Kind}
+use Rattle.meaning.specs.Rules.{Sweep}
 use Rattle.meaning.specs.Fit.{Choice, Marks, Bindings, Known, cardRows, Unused, Fits, fit}
 use Rattle.meaning.specs.Firing.{Work, headFacts, taken, takeIfFits}
 use Rattle.meaning.specs.WellFormed.{HasCard}
+pub use Rattle.promises.specs.Promises.{Taken, choicesOf, rowsUsed, factsMade}
 use Rattle.firings.specs.Basics.{neither, in-mem}
 use Rattle.firings.specs.CardRows.{Fresh, Marked, marked-append, fresh-append, AllNotices, card-row, no-card-row}
 use Rattle.firings.specs.Answers.{BoundTests}
 use Rattle.firings.specs.Fitting.{FitGives, fit-gives, none-exactly-if-not-fits}
 use Rattle.firings.specs.Choosing.{Ascending}
-
--- ---- what a sweep takes
-
--- a taken choice and the values found for it
-pub record Taken : Type 0 where
-  pub choice : Choice
-  pub bindings : Bindings
-
-abbrev pub choicesOf : List Taken → List Choice
-choicesOf ts = map (λ t. t .choice) ts
-
--- the card rows of all taken choices
-abbrev pub rowsUsed : List Kind → List Atom → List Taken → List ℕ
-rowsUsed kinds atoms [] = []
-rowsUsed kinds atoms (t ∷ ts) = cardRows kinds atoms (t .choice) ++ rowsUsed kinds atoms ts
-
--- "each taken choice's head atoms"
-abbrev pub factsMade : List Atom → List Taken → List Fact
-factsMade heads [] = []
-factsMade heads (t ∷ ts) = headFacts (t .bindings) heads ++ factsMade heads ts
 
 -- ---- choice by choice
 

@@ -2,7 +2,6 @@
 use Prim.Native.Nat.{ℕ, _≤_, _<_}
 use native.Mathlib.Omega.{arith}
 use mathlib.Core.Path.{_≡_, refl, sym, ap, _∙_, subst}
-use mathlib.Core.Logic.{_↔_}
 use mathlib.Core.List.{List}
 use lib.ListN.{length}
 use borrow.Author.Tests.{le-ltb}
@@ -12,14 +11,13 @@ use Rattle.meaning.specs.Firing.{spent, End, Quiet, Limit, Full, Spent, Stuck, 
 use Rattle.meaning.specs.Words.{stripKinds, attempt, runStrip}
 use Rattle.meaning.specs.Translation.{translate}
 use Rattle.meaning.specs.WellFormed.{GoodBook, GoodBoard}
-use Rattle.files.specs.Numbers.{Refusal, board, endNumber, endAnswer, refusal}
+use Rattle.files.specs.Numbers.{board, endNumber, endAnswer}
 use Rattle.files.specs.Judge.{Bytes, accepted, refused}
 use Rattle.files.specs.Board.{judgeBoard}
 use Rattle.files.specs.Book.{judgeBook}
-use Rattle.files.specs.Strip.{judgeStrip}
 use Rattle.files.specs.Encode.{encodeBoard, encodeStrip}
-use Rattle.files.specs.Entries.{Outcome, nothingWritten, runOutcome, runBookFile, translateFile, runStripFile}
-use Rattle.promises.specs.Promises.{TranslationIs, TranslationsAreStrips, AttemptsEnd, TakesTooMany, StripRunIs, StripsAgree, BoardsRefusedAlike, DemandThree}
+use Rattle.files.specs.Entries.{Outcome, runOutcome, runBookFile, translateFile, runStripFile}
+use Rattle.promises.specs.Promises.{TranslationsAreStrips, AttemptsEnd, TakesTooMany, StripRunIs, StripsAgree, BoardsRefusedAlike, DemandThree}
 use Rattle.encoding.specs.Boards.{board-accepted, board-encoded}
 use Rattle.encoding.specs.Strips.{strip-encoded, strip-length}
 use Rattle.book_encoding.specs.Accepted.{book-accepted}
