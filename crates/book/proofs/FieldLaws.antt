@@ -17,7 +17,7 @@ use Rattle.meaning.specs.Rules.{Term, constant, variable, Atom, occursInTerms}
 use Rattle.files.specs.Numbers.{Refusal, CUT, FIELD, LOOSE}
 use Rattle.files.specs.Judge.{Verdict, told, Judged, stop, demand, byte, two, afterRecord}
 use Rattle.files.specs.Book.{Reading, term, terms, atom}
-use Rattle.files.specs.InPlace.{twoAt}
+use Rattle.files.specs.InPlace.{byteAt, twoAt, termAt}
 use Rattle.kinds.specs.declared.Kinds.{Kinds}
 use Rattle.kinds.specs.Listed.{kindsOf, inRange}
 use Rattle.kinds.specs.KindLaws.{kinds-length}
@@ -62,22 +62,14 @@ ends end e next = sym (ap (λ (j : Judged Reading). told (afterRecord end j next
 
 -- ---- one term
 
--- one variable more
-with-variable : (known : List Bool) (v w : ℕ) → v < length known → getD (set known v true) w false ≡ (getD known w false || (eqb w v || false))
-with-variable known v w h = by (eqb w v) refl
-  where
-    by : (t : Bool) → eqb w v ≡ t → getD (set known v true) w false ≡ (getD known w false || (t || false))
-    by true e = let p : w ≡ v = eqb-true w v e in rw (p, getD-set-same known v true false h, or-true (getD known v false))
-    by false e = rw (getD-set-other known v w true false (eqb-false w v e), or-false (getD known w false))
-
-module _ (rest : List ℕ) (end at : ℕ) (free known : List Bool) where
-  pub term-no-tag : length rest < 1 → TermReads rest end at free known (record { took = T.Told (C.Cut end); known = known })
-  term-no-tag h = record { reads = λ bound i next. ends end (byte-cut end rest _ 0 (omega arith)) }
+module _ (rest : List ℕ) (end at : ℕ) (free : List Bool) where
+  pub term-no-tag : length rest < 1 → TermReads rest end at free (T.Told (C.Cut end))
+  term-no-tag h = record { reads = λ bound b next. ends end (byte-cut end rest _ 0 (omega arith)) }
 
   module _ (h : 1 ≤ length rest) where
-    pub term-bad-tag : 1 < getD rest 0 0 → TermReads rest end at free known (record { took = T.Told (C.Field at); known = known })
+    pub term-bad-tag : 1 < getD rest 0 0 → TermReads rest end at free (T.Told (C.Field at))
     term-bad-tag t =
-        record { reads = λ bound i next. ends end (byte-at end rest _ 0 h ∙ demand-false (leb (getD rest 0 0) 1) FIELD at _ (lt-leb (getD rest 0 0) 1 t)) }
+        record { reads = λ bound b next. ends end (byte-at end rest _ 0 h ∙ demand-false (leb (getD rest 0 0) 1) FIELD at _ (lt-leb (getD rest 0 0) 1 t)) }
 
     module _ (t : getD rest 0 0 ≤ 1) where
       -- as far as the value
@@ -89,17 +81,17 @@ module _ (rest : List ℕ) (end at : ℕ) (free known : List Bool) where
           else demand (ltb v variables) FIELD at (demand (bound v) LOOSE at (next (variable v) l)))
       to-value bound next = byte-at end rest _ 0 h ∙ demand-true (leb (getD rest 0 0) 1) FIELD at _ (le-leb (getD rest 0 0) 1 t)
 
-      pub term-no-value : length rest < 3 → TermReads rest end at free known (record { took = T.Told (C.Cut end); known = known })
-      term-no-value l = record { reads = λ bound i next. ends end (to-value bound next ∙ two-cut end rest _ 1 (omega arith)) }
+      pub term-no-value : length rest < 3 → TermReads rest end at free (T.Told (C.Cut end))
+      term-no-value l = record { reads = λ bound b next. ends end (to-value bound next ∙ two-cut end rest _ 1 (omega arith)) }
 
       module _ (l : 3 ≤ length rest) where
-        pub term-constant : getD rest 0 0 ≡ 0 → TermReads rest end at free known (record { took = T.Bytes 3; known = known })
+        pub term-constant : getD rest 0 0 ≡ 0 → TermReads rest end at free (T.Bytes 3)
         term-constant e = record {
-          reads = λ bound i. record {
+          reads = λ bound b. record {
             value = constant (twoAt rest 1);
             some = omega arith;
             within = l;
-            is = λ w u. sym (or-false (getD known w false));
+            is = rw (eq-eqb (getD rest 0 0) 0 e);
             goes = λ next. to-value bound next ∙ two-at end rest _ 1 l ∙ rw (eq-eqb (getD rest 0 0) 0 e);
           };
         }
@@ -110,29 +102,52 @@ module _ (rest : List ℕ) (end at : ℕ) (free known : List Bool) where
               → term end bound at rest next ≡ demand (ltb v variables) FIELD at (demand (bound v) LOOSE at (next (variable v) (drop 3 rest)))
           to-variable bound next = to-value bound next ∙ two-at end rest _ 1 l ∙ rw (ne-eqb (getD rest 0 0) 0 e, ← q)
 
-          pub term-no-variable : variables ≤ v → TermReads rest end at free known (record { took = T.Told (C.Field at); known = known })
+          pub term-no-variable : variables ≤ v → TermReads rest end at free (T.Told (C.Field at))
           term-no-variable m =
-              record { reads = λ bound i next. ends end (to-variable bound next ∙ demand-false (ltb v variables) FIELD at _ (le-ltb v variables m)) }
+              record { reads = λ bound b next. ends end (to-variable bound next ∙ demand-false (ltb v variables) FIELD at _ (le-ltb v variables m)) }
 
           module _ (m : v < variables) where
             to-bound : (bound : ℕ → Bool) (next : Term → List ℕ → Judged Reading)
                 → term end bound at rest next ≡ demand (bound v) LOOSE at (next (variable v) (drop 3 rest))
             to-bound bound next = to-variable bound next ∙ demand-true (ltb v variables) FIELD at _ (lt-ltb v variables m)
 
-            pub term-variable : length known ≡ variables → getD free v false ≡ true
-                → TermReads rest end at free known (record { took = T.Bytes 3; known = set known v true })
-            term-variable z f = record {
-              reads = λ bound i. record {
+            pub term-variable : getD free v false ≡ true → TermReads rest end at free (T.Bytes 3)
+            term-variable f = record {
+              reads = λ bound b. record {
                 value = variable v;
                 some = omega arith;
                 within = l;
-                is = λ w u. with-variable known v w (omega arith);
-                goes = λ next. to-bound bound next ∙ demand-true (bound v) LOOSE at _ (sym (i v m) ∙ f);
+                is = rw (ne-eqb (getD rest 0 0) 0 e, ← q);
+                goes = λ next. to-bound bound next ∙ demand-true (bound v) LOOSE at _ (sym (b v m) ∙ f);
               };
             }
 
-            pub term-loose : getD free v false ≡ false → TermReads rest end at free known (record { took = T.Told (C.Loose at); known = known })
-            term-loose f = record { reads = λ bound i next. ends end (to-bound bound next ∙ demand-false (bound v) LOOSE at _ (sym (i v m) ∙ f)) }
+            pub term-loose : getD free v false ≡ false → TermReads rest end at free (T.Told (C.Loose at))
+            term-loose f = record { reads = λ bound b next. ends end (to-bound bound next ∙ demand-false (bound v) LOOSE at _ (sym (b v m) ∙ f)) }
+
+-- ---- the variables with that of a term
+
+module _ (known : List Bool) (term : List ℕ) (tag : ℕ) (t : tag ≡ byteAt term 0) where
+  pub known-constant : tag ≡ 0 → Known known (termAt term 0 ∷ []) known
+  known-constant e w u = rw (← t, eq-eqb tag 0 e) (sym (or-false (getD known w false)))
+
+  module _ (e : tag ≡ 0 → ⊥) (v : ℕ) (q : v ≡ twoAt term 1) where
+    -- the term is a variable
+    occurs : (w : ℕ) → occursInTerms w (termAt term 0 ∷ []) ≡ eqb w v
+    occurs w = rw (← t, ne-eqb tag 0 e, ← q) (or-false (eqb w v))
+
+    pub known-no-variable : variables ≤ v → Known known (termAt term 0 ∷ []) known
+    known-no-variable m w u =
+        rw (occurs w, ne-eqb w v (λ p. let bad : ⊥ = omega arith in bad)) (sym (or-false (getD known w false)))
+
+    pub known-variable : v < variables → length known ≡ variables → Known known (termAt term 0 ∷ []) (set known v true)
+    known-variable m z w u = by (eqb w v) refl
+      where
+        by : (b : Bool) → eqb w v ≡ b → getD (set known v true) w false ≡ (getD known w false || occursInTerms w (termAt term 0 ∷ []))
+        by true p =
+            let same : w ≡ v = eqb-true w v p in
+            rw (occurs w, p, or-true (getD known w false)) (rw same (getD-set-same known v true false (omega arith)))
+        by false p = rw (occurs w, p, or-false (getD known w false)) (getD-set-other known v w true false (eqb-false w v p))
 
 -- ---- several terms
 
@@ -191,14 +206,13 @@ module _ (rest : List ℕ) (end at count : ℕ) (free known : List Bool) where
     pub scan-shorter : length left ≤ length rest
     scan-shorter = omega (arith, ap length (s .left-is), length-drop (s .place) rest)
 
-    module _ (h : i < count) (scan : Scan) (y : TermReads left end at free now scan) where
+    module _ (h : i < count) (took : Took) (y : TermReads left end at free took) where
       one : count - i ≡ suc (count - (i + 1))
       one = omega arith
 
       -- what the term says where it took `t`
-      term-reads : (t : Took) → scan .took ≡ t → (bound : ℕ → Bool) → Marked free bound
-          → Reads left end (term end bound at left) (λ x. Known now (x ∷ []) (scan .known)) t
-      term-reads t e bound b = subst (Reads left end (term end bound at left) (λ x. Known now (x ∷ []) (scan .known))) e (y .reads bound b)
+      term-reads : (t : Took) → took ≡ t → (bound : ℕ → Bool) → Marked free bound → Reads left end (term end bound at left) (λ x. x ≡ termAt left 0) t
+      term-reads t e bound b = subst (Reads left end (term end bound at left) (λ x. x ≡ termAt left 0)) e (y .reads bound b)
 
       -- the terms after it
       abbrev others : (ℕ → Bool) → (List Term → List ℕ → Judged Reading) → Term → List ℕ → Judged Reading
@@ -210,27 +224,26 @@ module _ (rest : List ℕ) (end at count : ℕ) (free known : List Bool) where
           s .lefts bound b .same next
           ∙ ap (λ (k : ℕ). terms end bound at k left (λ ts l. next (s .lefts bound b .before ts) l)) one
 
-      pub scan-told : (checked : BookChecked) → scan .took ≡ T.Told checked
+      pub scan-told : (checked : BookChecked) → took ≡ T.Told checked
           → TermsRead rest end at count free known (record { took = T.Told checked; known = known })
       scan-told checked e = record {
-        reads = λ bound b next. subst (λ (j : Judged Reading). Ends end j checked) (sym (to-term bound b next))
+        reads = λ bound b next.
+            subst (λ (j : Judged Reading). Ends end j checked) (sym (to-term bound b next))
             (term-reads (T.Told checked) e bound b (others bound (λ ts l. next (s .lefts bound b .before ts) l)));
       }
 
-      module _ (m : ℕ) (e : scan .took ≡ T.Bytes m) where
+      module _ (m : ℕ) (e : took ≡ T.Bytes m) where
         -- the array itself is such a test
-        found : Found left (term end (λ v. getD free v false) at left) (λ x. Known now (x ∷ []) (scan .known)) m
-        found = term-reads (T.Bytes m) e (λ v. getD free v false) (λ v u. refl)
-
         pub scan-within : m ≤ length left
-        scan-within = found .within
+        scan-within = term-reads (T.Bytes m) e (λ v. getD free v false) (λ v u. refl) .within
 
         occurs-cons : (v : ℕ) (t : Term) (ts : List Term) → occursInTerms v (t ∷ ts) ≡ (occursInTerms v (t ∷ []) || occursInTerms v ts)
         occurs-cons v (constant a) ts = refl
         occurs-cons v (variable a) ts = ap (λ (x : Bool). x || occursInTerms v ts) (sym (or-false (eqb v a)))
 
-        pub scan-next : Scanned rest end at count free known (take (length left - m) (drop m left)) (scan .known) (i + 1)
-        scan-next = rw (part-from m left) (record {
+        pub scan-next : (after : List Bool) → Known now (termAt left 0 ∷ []) after
+            → Scanned rest end at count free known (take (length left - m) (drop m left)) after (i + 1)
+        scan-next after k = rw (part-from m left) (record {
           turn = omega arith;
           place = s .place + m;
           past = omega (arith, s .past);
@@ -243,9 +256,10 @@ module _ (rest : List ℕ) (end at count : ℕ) (free known : List Bool) where
                 same = λ next. to-term bound b next ∙ f .goes (others bound (λ ts l₁. next (l .before ts) l₁));
                 seen = λ ts v u.
                     l .seen (f .value ∷ ts) v u
-                    ∙ ap (λ (x : Bool). getD now v false || x) (occurs-cons v (f .value) ts)
-                    ∙ sym (or-assoc (getD now v false) (occursInTerms v (f .value ∷ [])) (occursInTerms v ts))
-                    ∙ ap (λ (x : Bool). x || occursInTerms v ts) (sym (f .is v u));
+                    ∙ ap (λ (x : Bool). getD now v false || x)
+                    (occurs-cons v (f .value) ts ∙ ap (λ (t : Term). occursInTerms v (t ∷ []) || occursInTerms v ts) (f .is))
+                    ∙ sym (or-assoc (getD now v false) (occursInTerms v (termAt left 0 ∷ [])) (occursInTerms v ts))
+                    ∙ ap (λ (x : Bool). x || occursInTerms v ts) (sym (k v u));
               };
         })
 
@@ -320,16 +334,16 @@ module _ (rest : List ℕ) (end at : ℕ) where
       pub kind-no-arity : length rest < 4 → KindReads rest end at (T.Told (C.Cut end))
       kind-no-arity l = record { reads = λ next. ends end (to-arity next ∙ byte-cut end rest _ 3 (omega arith)) }
 
-      module _ (l : 4 ≤ length rest) where
-        pub kind-bad-arity : mostNumbers < getD rest 3 0 → KindReads rest end at (T.Told (C.Field at))
+      module _ (l : 4 ≤ length rest) (arity : ℕ) (q : arity ≡ byteAt rest 3) where
+        pub kind-bad-arity : mostNumbers < arity → KindReads rest end at (T.Told (C.Field at))
         kind-bad-arity a = record {
           reads = λ next.
               ends end
               (to-arity next ∙ byte-at end rest _ 3 l
-              ∙ demand-false (leb (getD rest 3 0) mostNumbers) FIELD at _ (lt-leb (getD rest 3 0) mostNumbers a));
+              ∙ demand-false (leb (getD rest 3 0) mostNumbers) FIELD at _ (lt-leb (getD rest 3 0) mostNumbers (omega arith)));
         }
 
-        pub kind-whole : getD rest 3 0 ≤ mostNumbers → KindReads rest end at (T.Bytes 4)
+        pub kind-whole : arity ≤ mostNumbers → KindReads rest end at (T.Bytes 4)
         kind-whole a = record {
           reads = record {
             value = (getD rest 2 0, getD rest 3 0);
@@ -338,7 +352,7 @@ module _ (rest : List ℕ) (end at : ℕ) where
             is = refl;
             goes = λ next.
                 to-arity next ∙ byte-at end rest _ 3 l
-                ∙ demand-true (leb (getD rest 3 0) mostNumbers) FIELD at _ (le-leb (getD rest 3 0) mostNumbers a);
+                ∙ demand-true (leb (getD rest 3 0) mostNumbers) FIELD at _ (le-leb (getD rest 3 0) mostNumbers (omega arith));
           };
         }
 

@@ -9,6 +9,7 @@ use Rattle.meaning.specs.Facts.{variables, mostKinds, mostNumbers}
 use Rattle.meaning.specs.Rules.{Term, Atom, occursInTerms}
 use Rattle.files.specs.Numbers.{FIELD}
 use Rattle.files.specs.Judge.{Verdict, told, Judged, demand, byte, afterRecord}
+use Rattle.files.specs.InPlace.{termAt}
 use Rattle.files.specs.Book.{Reading, term, terms, atom}
 use Rattle.kinds.specs.declared.Kinds.{Kinds}
 use Rattle.kinds.specs.Listed.{kindsOf}
@@ -48,9 +49,8 @@ Known known ts after = Marked after (λ v. getD known v false || occursInTerms v
 
 -- ---- the fields; `free` are the variables that may stand there
 
-pub record TermReads (rest : List ℕ) (end at : ℕ) (free known : List Bool) (r : Scan) : Type 0 where
-  pub reads : (bound : ℕ → Bool) → Marked free bound
-      → Reads rest end (term end bound at rest) (λ t. Known known (t ∷ []) (r .known)) (r .took)
+pub record TermReads (rest : List ℕ) (end at : ℕ) (free : List Bool) (r : Took) : Type 0 where
+  pub reads : (bound : ℕ → Bool) → Marked free bound → Reads rest end (term end bound at rest) (λ t. t ≡ termAt rest 0) r
 
 pub record TermsRead (rest : List ℕ) (end at count : ℕ) (free known : List Bool) (r : Scan) : Type 0 where
   pub reads : (bound : ℕ → Bool) → Marked free bound

@@ -1,21 +1,23 @@
 // The book: its sizes and marks, the reader that judges a file as a book, and the kinds that it declares.
 ghost use mathlib.Core.Path.{_≡_};
-ghost use mathlib.Core.Bool.{true};
 ghost use Prim.Native.Nat.{ℕ, _+_, _≤_, _<_};
-ghost use mathlib.Core.List.{List};
+ghost use mathlib.Core.List.{List, [], _∷_};
 ghost use lib.ListN.{length};
 ghost use Rattle.files.specs.Judge.{told};
 ghost use Rattle.files.specs.Book.{markOf, judgeBook};
 ghost use Rattle.files.specs.Book as B;
-ghost use Rattle.files.specs.InPlace.{byteAt, kindsAt};
+ghost use Rattle.files.specs.InPlace.{byteAt, termAt, kindsAt};
 ghost use Rattle.kinds.specs.Listed.{kindsOf};
 ghost use Rattle.book.specs.Told.{bookTold};
-ghost use Rattle.book.specs.Reads.{TermReads, TermsRead, AtomReads, KindReads, TestReads};
+ghost use Rattle.book.specs.Reads.{Known, TermReads, TermsRead, AtomReads, KindReads, TestReads};
 ghost use Rattle.book.specs.Holds.{withRules, markIs, inBody, MayStand, Lacks, Most, FieldsRead, RecordReads};
 use fields::byte_at;
 use fields::starts_with;
 use fields::two_at;
 use kinds::Kinds;
+
+// Which of the variables 0 to 11.
+type Variables = [bool; Book::VARIABLES];
 
 // A book as far as it is read.
 pub struct Book {
@@ -29,9 +31,9 @@ pub struct Book {
     // of the open rule: how many sweeps, the open one among them; has its body a card atom; the variables of its body
     sweeps: usize,
     carded: bool,
-    own: [bool; Book::VARIABLES],
+    own: Variables,
     // the variables that a test or head may have here
-    bound: [bool; Book::VARIABLES],
+    bound: Variables,
 }
 
 impl Book {
@@ -47,7 +49,7 @@ impl Book {
 
     pub const VARIABLES: usize = 12;
 
-    pub const NUMBERS: u8 = 4;
+    pub const NUMBERS: usize = 4;
 
     pub const LONGEST: usize = 17794;
 
@@ -106,7 +108,7 @@ enum Took {
 // A field, and the variables that are known after it.
 struct Scan {
     took: Took,
-    known: [bool; Book::VARIABLES],
+    known: Variables,
 }
 
 // A record, and the book as far as it is read after it.
@@ -115,56 +117,66 @@ struct Next {
     book: Book,
 }
 
-// One term; `free` are the variables that it may be. CUT is told at `end`, what else is wrong at `at`.
-fn read_term(
-    rest: &[u8],
-    end: usize,
-    at: usize,
-    free: [bool; Book::VARIABLES],
-    known: [bool; Book::VARIABLES],
-) -> Scan
-    ensures { λ r. ⌜ TermReads (now (rest .entry)) end at free known r ⌝ }
+// The marks that a book has.
+enum Mark {
+    Kd,
+    Ru,
+    Ba,
+    Te,
+    He,
+    Sw,
+    En,
+    Other,
+}
+
+// What a body lacks.
+enum Lack {
+    Nothing,
+    Card,
+    Atom,
+}
+
+// One term; `free` are the variables that it may be. CUT is told at `end`, all else at `at`.
+fn read_term(rest: &[u8], end: usize, at: usize, free: Variables) -> Took
+    ensures { λ r. ⌜ TermReads (now (rest .entry)) end at free r ⌝ }
 {
-    let cut = Scan {
-        took: Took::Told(BookChecked::Cut(end)),
-        known,
-    };
-    let field = Scan {
-        took: Took::Told(BookChecked::Field(at)),
-        known,
-    };
     if rest.len() < 1 {
-        return cut;
+        return Took::Told(BookChecked::Cut(end));
     }
     let tag = rest[0];
     if 1 < tag {
-        return field;
+        return Took::Told(BookChecked::Field(at));
     }
     if rest.len() < 3 {
-        return cut;
+        return Took::Told(BookChecked::Cut(end));
     }
     if tag == 0 {
-        return Scan {
-            took: Took::Bytes(3),
-            known,
-        };
+        return Took::Bytes(3);
     }
     let v = two_at(rest, 1) as usize;
     if Book::VARIABLES <= v {
-        return field;
+        return Took::Told(BookChecked::Field(at));
     }
     if free[v] {
-        let mut after = known;
-        after[v] = true;
-        return Scan {
-            took: Took::Bytes(3),
-            known: after,
-        };
+        return Took::Bytes(3);
     }
-    Scan {
-        took: Took::Told(BookChecked::Loose(at)),
-        known,
+    Took::Told(BookChecked::Loose(at))
+}
+
+// The variables with that of a term, if it is one.
+fn with_term(known: Variables, term: &[u8]) -> Variables
+    ensures { λ r. ⌜ Known known (termAt (now (term .entry)) 0 ∷ []) r ⌝ }
+{
+    if byte_at(term, 0) == 0 {
+        return known;
     }
+    let v = two_at(term, 1) as usize;
+    if Book::VARIABLES <= v {
+        return known;
+    }
+    let mut after = known;
+    after[v] = true;
+    after
 }
 
 // So many terms, from the record's byte 3 on.
@@ -173,8 +185,8 @@ fn read_terms(
     end: usize,
     at: usize,
     count: usize,
-    free: [bool; Book::VARIABLES],
-    known: [bool; Book::VARIABLES],
+    free: Variables,
+    known: Variables,
 ) -> Scan
     requires { ⌜ 3 ≤ length (now rest) ⌝ }
     ensures { λ r. ⌜ TermsRead (now (rest .entry)) end at count free known r ⌝ }
@@ -183,13 +195,11 @@ fn read_terms(
     let mut now = known;
     let mut i = 0;
     while i < count {
-        let scan = read_term(left, end, at, free, now);
-        let took = scan.took;
-        let after = scan.known;
-        match took {
+        match read_term(left, end, at, free) {
             Took::Bytes(m) => {
-                left = &left[m..];
+                let after = with_term(now, left);
                 now = after;
+                left = &left[m..];
                 i += 1;
             }
             Took::Told(told) => {
@@ -212,8 +222,8 @@ fn read_atom(
     rest: &[u8],
     end: usize,
     at: usize,
-    free: [bool; Book::VARIABLES],
-    known: [bool; Book::VARIABLES],
+    free: Variables,
+    known: Variables,
 ) -> Scan
     ensures { λ r. ⌜ AtomReads kinds (now (rest .entry)) end at free known r ⌝ }
 {
@@ -247,14 +257,14 @@ fn read_kind(rest: &[u8], end: usize, at: usize) -> Took
     if rest.len() < 4 {
         return Took::Told(BookChecked::Cut(end));
     }
-    if Book::NUMBERS < rest[3] {
+    if Book::NUMBERS < byte_at(rest, 3) as usize {
         return Took::Told(BookChecked::Field(at));
     }
     Took::Bytes(4)
 }
 
 // A record's test number and its two terms.
-fn read_test(rest: &[u8], end: usize, at: usize, bound: [bool; Book::VARIABLES]) -> Took
+fn read_test(rest: &[u8], end: usize, at: usize, bound: Variables) -> Took
     ensures { λ r. ⌜ TestReads (now (rest .entry)) end at bound r ⌝ }
 {
     if rest.len() < 3 {
@@ -420,18 +430,6 @@ fn read_en(book: Book, rest: &[u8], end: usize, at: usize) -> Next
     }
 }
 
-// The marks that a book has.
-enum Mark {
-    Kd,
-    Ru,
-    Ba,
-    Te,
-    He,
-    Sw,
-    En,
-    Other,
-}
-
 // The mark that a record starts with.
 fn mark_of(rest: &[u8]) -> Mark
     ensures { λ r. ⌜ markIs r ≡ markOf (byteAt (now (rest .entry)) 0) (byteAt (now (rest .entry)) 1) ⌝ }
@@ -491,13 +489,6 @@ fn in_body(mark: Mark) -> bool
         Mark::En => false,
         Mark::Other => true,
     }
-}
-
-// What a body lacks.
-enum Lack {
-    Nothing,
-    Card,
-    Atom,
 }
 
 // NOCARD and BARE: what the open rule or sweep lacks before a record with the mark.

@@ -16,8 +16,11 @@ returns-2 c = search kind-bad-class
 returns-3 : tie.Need-returns-3
 returns-3 c = search kind-no-arity
 
-shared-slice-read-if4 : tie.Need-shared-slice-read-if4
-shared-slice-read-if4 c = search needs
+byte-at-requires : tie.Need-byte-at-requires
+byte-at-requires c κs = search needs
+
+cast-if4 : tie.Need-cast-if4
+cast-if4 c = search needs
 
 returns-4 : tie.Need-returns-4
 returns-4 c = search kind-bad-arity
@@ -33,6 +36,7 @@ read-kind-spec =
     shared-slice-read-if2
     returns-2
     returns-3
-    shared-slice-read-if4
+    byte-at-requires
+    cast-if4
     returns-4
     returns-5)

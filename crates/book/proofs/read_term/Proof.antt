@@ -31,9 +31,6 @@ returns-5 c = search term-no-variable
 array-read-if6 : tie.Need-array-read-if6
 array-read-if6 c = search needs
 
-array-write-after : tie.Need-array-write-after
-array-write-after c = search needs
-
 returns-6 : tie.Need-returns-6
 returns-6 c = search term-variable
 
@@ -53,6 +50,5 @@ read-term-spec =
     cast-v
     returns-5
     array-read-if6
-    array-write-after
     returns-6
     returns-7)

@@ -26,8 +26,11 @@ loop-holds c = search scan-start
 read-term-requires : tie.Need-read-term-requires Inv-loop μ-loop
 read-term-requires c κs = search needs
 
-enum-known-took : tie.Need-enum-known-took Inv-loop μ-loop
-enum-known-took c = search needs
+enum-known-m : tie.Need-enum-known-m Inv-loop μ-loop
+enum-known-m c = search needs
+
+with-term-requires : tie.Need-with-term-requires Inv-loop μ-loop
+with-term-requires c κs = search needs
 
 sub-left-2 : tie.Need-sub-left-2 Inv-loop μ-loop
 sub-left-2 c = search scan-within
@@ -47,14 +50,14 @@ loop-less c = search needs
 loop-again : tie.Need-loop-again Inv-loop μ-loop
 loop-again c = search scan-next
 
-enum-known-took-2 : tie.Need-enum-known-took-2 Inv-loop μ-loop
-enum-known-took-2 c = search needs
+enum-known-told : tie.Need-enum-known-told Inv-loop μ-loop
+enum-known-told c = search needs
 
 returns : tie.Need-returns Inv-loop μ-loop
 returns c = search scan-told
 
-sub-t24 : tie.Need-sub-t24 Inv-loop μ-loop
-sub-t24 c = search scan-shorter
+sub-t23 : tie.Need-sub-t23 Inv-loop μ-loop
+sub-t23 c = search scan-shorter
 
 returns-2 : tie.Need-returns-2 Inv-loop μ-loop
 returns-2 c = search scan-done
@@ -70,14 +73,15 @@ read-terms-spec =
     part-left-end
     loop-holds
     read-term-requires
-    enum-known-took
+    enum-known-m
+    with-term-requires
     sub-left-2
     part-left-start-2
     part-left-end-2
     add-i
     loop-less
     loop-again
-    enum-known-took-2
+    enum-known-told
     returns
-    sub-t24
+    sub-t23
     returns-2)
