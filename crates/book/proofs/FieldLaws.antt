@@ -1,16 +1,16 @@
 -- The fields of a record, in the terms of the reader's code: bytes and two-byte values at a place, one term, terms, a kind and its terms, class
 -- and arity, a test. A law for each `return`.
-use Prim.Native.Nat.{ℕ, zero, suc, _+_, _-_, _*_, _≤_, _<_}
+use Prim.Native.Nat.{ℕ, suc, _+_, _-_, _*_, _≤_, _<_}
 use mathlib.Core.Path.{_≡_, refl, sym, ap, _∙_, subst}
-use mathlib.Core.Bool.{Bool, true, false, _||_, or-true, or-false, or-assoc}
+use mathlib.Core.Bool.{Bool, true, false, _||_, or-false, or-assoc}
 use mathlib.Core.Option.{some}
 use mathlib.Core.List.{List, [], _∷_}
 use native.Mathlib.Omega.{arith}
 use native.Mathlib.Nat.{sub-zero}
-use lib.ListN.{length, getD, take, drop, set, length-drop, length-set, drop-of-length-le}
-use lib.Seq.{take-all, drop-cons, drop-drop, getD-set-same, getD-set-other}
+use lib.ListN.{length, getD, take, drop, length-drop, drop-of-length-le}
+use lib.Seq.{take-all, drop-cons, drop-drop}
 use lib.Dec.{eqb, leb, ltb}
-use borrow.Author.Tests.{le-leb, lt-leb, lt-ltb, le-ltb, eq-eqb, ne-eqb, eqb-true, eqb-false}
+use borrow.Author.Tests.{le-leb, lt-leb, lt-ltb, le-ltb, eq-eqb, ne-eqb}
 use Rattle.meaning.specs.Basics.{if_then_else_}
 use Rattle.meaning.specs.Facts.{variables, mostKinds, mostNumbers, arityOf}
 use Rattle.meaning.specs.Rules.{Term, constant, variable, Atom, occursInTerms}
@@ -19,14 +19,16 @@ use Rattle.files.specs.Judge.{Verdict, told, Judged, stop, demand, byte, two, a
 use Rattle.files.specs.Book.{Reading, term, terms, atom}
 use Rattle.files.specs.InPlace.{byteAt, twoAt, termAt}
 use Rattle.kinds.specs.declared.Kinds.{Kinds}
-use Rattle.kinds.specs.Listed.{kindsOf, inRange}
+use Rattle.kinds.specs.Listed.{kindsOf}
 use Rattle.kinds.specs.KindLaws.{kinds-length}
-use Rattle.book.specs.Reads.{Ends, Fields, Found, Reads, Marked, Known, TermReads, TermsRead, AtomReads, kindFields, KindReads, testFields, TestReads}
+use Rattle.book.specs.Sets.{isIn, withVariable}
+use Rattle.book.specs.Reads.{Ends, Fields, Reads, Marked, Known, TermReads, TermsRead, AtomReads, kindFields, KindReads, testFields, TestReads}
 use Rattle.book.specs.declared.BookChecked.{BookChecked}
 use Rattle.book.specs.declared.BookChecked.the-variants as C
 use Rattle.book.specs.declared.Took.{Took}
 use Rattle.book.specs.declared.Took.the-variants as T
 use Rattle.book.specs.declared.Scan.{Scan}
+use Rattle.book.proofs.SetLaws.{in-with}
 
 -- ---- a byte and two bytes at a place, and a demand
 
@@ -62,7 +64,7 @@ ends end e next = sym (ap (λ (j : Judged Reading). told (afterRecord end j next
 
 -- ---- one term
 
-module _ (rest : List ℕ) (end at : ℕ) (free : List Bool) where
+module _ (rest : List ℕ) (end at free : ℕ) where
   pub term-no-tag : length rest < 1 → TermReads rest end at free (T.Told (C.Cut end))
   term-no-tag h = record { reads = λ bound b next. ends end (byte-cut end rest _ 0 (omega arith)) }
 
@@ -106,30 +108,30 @@ module _ (rest : List ℕ) (end at : ℕ) (free : List Bool) where
           term-no-variable m =
               record { reads = λ bound b next. ends end (to-variable bound next ∙ demand-false (ltb v variables) FIELD at _ (le-ltb v variables m)) }
 
-          module _ (m : v < variables) where
+          module _ (m : v < variables) (may : Bool) (x : may ≡ isIn free v) where
             to-bound : (bound : ℕ → Bool) (next : Term → List ℕ → Judged Reading)
                 → term end bound at rest next ≡ demand (bound v) LOOSE at (next (variable v) (drop 3 rest))
             to-bound bound next = to-variable bound next ∙ demand-true (ltb v variables) FIELD at _ (lt-ltb v variables m)
 
-            pub term-variable : getD free v false ≡ true → TermReads rest end at free (T.Bytes 3)
+            pub term-variable : may ≡ true → TermReads rest end at free (T.Bytes 3)
             term-variable f = record {
               reads = λ bound b. record {
                 value = variable v;
                 some = omega arith;
                 within = l;
                 is = rw (ne-eqb (getD rest 0 0) 0 e, ← q);
-                goes = λ next. to-bound bound next ∙ demand-true (bound v) LOOSE at _ (sym (b v m) ∙ f);
+                goes = λ next. to-bound bound next ∙ demand-true (bound v) LOOSE at _ (sym (b v m) ∙ sym x ∙ f);
               };
             }
 
-            pub term-loose : getD free v false ≡ false → TermReads rest end at free (T.Told (C.Loose at))
-            term-loose f = record { reads = λ bound b next. ends end (to-bound bound next ∙ demand-false (bound v) LOOSE at _ (sym (b v m) ∙ f)) }
+            pub term-loose : may ≡ false → TermReads rest end at free (T.Told (C.Loose at))
+            term-loose f = record { reads = λ bound b next. ends end (to-bound bound next ∙ demand-false (bound v) LOOSE at _ (sym (b v m) ∙ sym x ∙ f)) }
 
 -- ---- the variables with that of a term
 
-module _ (known : List Bool) (term : List ℕ) (tag : ℕ) (t : tag ≡ byteAt term 0) where
+module _ (known : ℕ) (term : List ℕ) (tag : ℕ) (t : tag ≡ byteAt term 0) where
   pub known-constant : tag ≡ 0 → Known known (termAt term 0 ∷ []) known
-  known-constant e w u = rw (← t, eq-eqb tag 0 e) (sym (or-false (getD known w false)))
+  known-constant e w u = rw (← t, eq-eqb tag 0 e) (sym (or-false (isIn known w)))
 
   module _ (e : tag ≡ 0 → ⊥) (v : ℕ) (q : v ≡ twoAt term 1) where
     -- the term is a variable
@@ -138,16 +140,10 @@ module _ (known : List Bool) (term : List ℕ) (tag : ℕ) (t : tag ≡ byteAt t
 
     pub known-no-variable : variables ≤ v → Known known (termAt term 0 ∷ []) known
     known-no-variable m w u =
-        rw (occurs w, ne-eqb w v (λ p. let bad : ⊥ = omega arith in bad)) (sym (or-false (getD known w false)))
+        rw (occurs w, ne-eqb w v (λ p. let bad : ⊥ = omega arith in bad)) (sym (or-false (isIn known w)))
 
-    pub known-variable : v < variables → length known ≡ variables → Known known (termAt term 0 ∷ []) (set known v true)
-    known-variable m z w u = by (eqb w v) refl
-      where
-        by : (b : Bool) → eqb w v ≡ b → getD (set known v true) w false ≡ (getD known w false || occursInTerms w (termAt term 0 ∷ []))
-        by true p =
-            let same : w ≡ v = eqb-true w v p in
-            rw (occurs w, p, or-true (getD known w false)) (rw same (getD-set-same known v true false (omega arith)))
-        by false p = rw (occurs w, p, or-false (getD known w false)) (getD-set-other known v w true false (eqb-false w v p))
+    pub known-variable : (after : ℕ) → after ≡ withVariable known v → Known known (termAt term 0 ∷ []) after
+    known-variable after a w u = ap (λ (x : ℕ). isIn x w) a ∙ in-with known v w ∙ ap (λ (x : Bool). isIn known w || x) (sym (occurs w))
 
 -- ---- several terms
 
@@ -156,14 +152,14 @@ pub part-from : (m : ℕ) (rest : List ℕ) → take (length rest - m) (drop m r
 part-from m rest = take-all (length rest - m) (drop m rest) (omega (arith, length-drop m rest))
 
 -- judging the terms that are left is judging them all
-pub record Left (rest : List ℕ) (end at count : ℕ) (bound : ℕ → Bool) (known : List Bool) (left : List ℕ) (now : List Bool) (i : ℕ) : Type 0 where
+pub record Left (rest : List ℕ) (end at count : ℕ) (bound : ℕ → Bool) (known : ℕ) (left : List ℕ) (now i : ℕ) : Type 0 where
   pub before : List Term → List Term
   pub same : (next : List Term → List ℕ → Judged Reading)
       → terms end bound at count (drop 3 rest) next ≡ terms end bound at (count - i) left (λ ts l. next (before ts) l)
   pub seen : (ts : List Term) (v : ℕ) → v < variables
-      → (getD known v false || occursInTerms v (before ts)) ≡ (getD now v false || occursInTerms v ts)
+      → (isIn known v || occursInTerms v (before ts)) ≡ (isIn now v || occursInTerms v ts)
 
-pub record Scanned (rest : List ℕ) (end at count : ℕ) (free known : List Bool) (left : List ℕ) (now : List Bool) (i : ℕ) : Type 0 where
+pub record Scanned (rest : List ℕ) (end at count free known : ℕ) (left : List ℕ) (now i : ℕ) : Type 0 where
   pub turn : i ≤ count
   pub place : ℕ
   pub past : 3 ≤ place
@@ -171,7 +167,7 @@ pub record Scanned (rest : List ℕ) (end at count : ℕ) (free known : List Boo
   pub left-is : left ≡ drop place rest
   pub lefts : (bound : ℕ → Bool) → Marked free bound → Left rest end at count bound known left now i
 
-module _ (rest : List ℕ) (end at count : ℕ) (free known : List Bool) where
+module _ (rest : List ℕ) (end at count free known : ℕ) where
   pub scan-start : 3 ≤ length rest → Scanned rest end at count free known (take (length rest - 3) (drop 3 rest)) known 0
   scan-start h = rw (part-from 3 rest) (record {
     turn = omega arith;
@@ -186,7 +182,7 @@ module _ (rest : List ℕ) (end at count : ℕ) (free known : List Bool) where
     };
   })
 
-  module _ (left : List ℕ) (now : List Bool) (i : ℕ) (s : Scanned rest end at count free known left now i) where
+  module _ (left : List ℕ) (now i : ℕ) (s : Scanned rest end at count free known left now i) where
     pub scan-done : count ≤ i → TermsRead rest end at count free known (record { took = T.Bytes (length rest - length left); known = now })
     scan-done h = record {
       reads = λ bound b.
@@ -196,7 +192,7 @@ module _ (rest : List ℕ) (end at count : ℕ) (free known : List Bool) where
             value = l .before [];
             some = omega (arith, s .past);
             within = omega arith;
-            is = λ v u. sym (or-false (getD now v false)) ∙ sym (l .seen [] v u);
+            is = λ v u. sym (or-false (isIn now v)) ∙ sym (l .seen [] v u);
             goes = λ next.
                 l .same next ∙ ap (λ (k : ℕ). terms end bound at k left (λ ts l₁. next (l .before ts) l₁)) none
                 ∙ ap (next (l .before [])) (s .left-is ∙ ap (λ (k : ℕ). drop k rest) (sym p));
@@ -235,13 +231,13 @@ module _ (rest : List ℕ) (end at count : ℕ) (free known : List Bool) where
       module _ (m : ℕ) (e : took ≡ T.Bytes m) where
         -- the array itself is such a test
         pub scan-within : m ≤ length left
-        scan-within = term-reads (T.Bytes m) e (λ v. getD free v false) (λ v u. refl) .within
+        scan-within = term-reads (T.Bytes m) e (λ v. isIn free v) (λ v u. refl) .within
 
         occurs-cons : (v : ℕ) (t : Term) (ts : List Term) → occursInTerms v (t ∷ ts) ≡ (occursInTerms v (t ∷ []) || occursInTerms v ts)
         occurs-cons v (constant a) ts = refl
         occurs-cons v (variable a) ts = ap (λ (x : Bool). x || occursInTerms v ts) (sym (or-false (eqb v a)))
 
-        pub scan-next : (after : List Bool) → Known now (termAt left 0 ∷ []) after
+        pub scan-next : (after : ℕ) → Known now (termAt left 0 ∷ []) after
             → Scanned rest end at count free known (take (length left - m) (drop m left)) after (i + 1)
         scan-next after k = rw (part-from m left) (record {
           turn = omega arith;
@@ -256,9 +252,9 @@ module _ (rest : List ℕ) (end at count : ℕ) (free known : List Bool) where
                 same = λ next. to-term bound b next ∙ f .goes (others bound (λ ts l₁. next (l .before ts) l₁));
                 seen = λ ts v u.
                     l .seen (f .value ∷ ts) v u
-                    ∙ ap (λ (x : Bool). getD now v false || x)
+                    ∙ ap (λ (x : Bool). isIn now v || x)
                     (occurs-cons v (f .value) ts ∙ ap (λ (t : Term). occursInTerms v (t ∷ []) || occursInTerms v ts) (f .is))
-                    ∙ sym (or-assoc (getD now v false) (occursInTerms v (termAt left 0 ∷ [])) (occursInTerms v ts))
+                    ∙ sym (or-assoc (isIn now v) (occursInTerms v (termAt left 0 ∷ [])) (occursInTerms v ts))
                     ∙ ap (λ (x : Bool). x || occursInTerms v ts) (sym (k v u));
               };
         })
@@ -282,7 +278,7 @@ reads-as rest end from to P Q make e q (T.Told checked) f = λ next. subst (λ (
 pub count-is : (kinds : Kinds) → kinds .count ≤ mostKinds → length (kindsOf kinds) ≡ kinds .count
 count-is kinds h = kinds-length kinds ∙ rw (le-leb (kinds .count) mostKinds h)
 
-module _ (kinds : Kinds) (rest : List ℕ) (end at : ℕ) (free known : List Bool) where
+module _ (kinds : Kinds) (rest : List ℕ) (end at free known : ℕ) where
   pub atom-cut : length rest < 3 → AtomReads kinds rest end at free known (record { took = T.Told (C.Cut end); known = known })
   atom-cut h = record { reads = λ few bound b next. ends end (byte-cut end rest _ 2 (omega arith)) }
 
@@ -358,7 +354,7 @@ module _ (rest : List ℕ) (end at : ℕ) where
 
 -- ---- a test
 
-module _ (rest : List ℕ) (end at : ℕ) (free : List Bool) where
+module _ (rest : List ℕ) (end at free : ℕ) where
   pub test-cut : length rest < 3 → TestReads rest end at free (T.Told (C.Cut end))
   test-cut h = record { reads = λ bound b next. ends end (byte-cut end rest _ 2 (omega arith)) }
 
@@ -368,7 +364,7 @@ module _ (rest : List ℕ) (end at : ℕ) (free : List Bool) where
       reads = λ bound b next. ends end (byte-at end rest _ 2 h ∙ demand-false (leb (getD rest 2 0) 3) FIELD at _ (lt-leb (getD rest 2 0) 3 u));
     }
 
-    pub test-terms : getD rest 2 0 ≤ 3 → (known : List Bool) (r : Scan) → TermsRead rest end at 2 free known r → TestReads rest end at free (r .took)
+    pub test-terms : getD rest 2 0 ≤ 3 → (known : ℕ) (r : Scan) → TermsRead rest end at 2 free known r → TestReads rest end at free (r .took)
     test-terms u known r y = record {
       reads = λ bound b.
           reads-as rest end (terms end bound at 2 (drop 3 rest)) (testFields (drop 2 rest) end at bound) _ _ (λ ts. (getD rest 2 0, ts))

@@ -1,14 +1,13 @@
 -- The kinds at the start of any bytes, read one by one.
 use Prim.Native.Nat.{ℕ, zero, suc, _+_, _-_, _*_, _≤_, _<_}
-use mathlib.Core.Path.{_≡_, refl, sym, ap, ap₂, _∙_, subst}
+use mathlib.Core.Path.{_≡_, refl, sym, ap, ap₂, _∙_}
 use mathlib.Core.Bool.{Bool, true, false, not}
 use mathlib.Core.List.{List, [], _∷_, _++_, append-assoc, append-nil}
 use native.Mathlib.Omega.{arith}
-use native.Mathlib.Nat.{add-zero}
-use lib.ListN.{length, getD, take, drop, set, length-drop, length-set, drop-of-length-le}
+use lib.ListN.{length, getD, take, drop, set, length-set, drop-of-length-le}
 use lib.Seq.{drop-drop, getD-drop}
-use lib.Dec.{eqb, leb}
-use borrow.Author.Tests.{le-leb, not-true, not-false}
+use lib.Dec.{eqb}
+use borrow.Author.Tests.{not-true, not-false}
 use Rattle.meaning.specs.Basics.{if_then_else_}
 use Rattle.meaning.specs.Facts.{Kind, mostKinds}
 use Rattle.files.specs.Marks.{KD, isMark}

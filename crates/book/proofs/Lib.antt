@@ -1,3 +1,4 @@
+pub mod SetLaws
 pub mod FieldLaws
 pub mod StateLaws
 pub mod RecordLaws

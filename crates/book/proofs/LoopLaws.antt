@@ -4,19 +4,16 @@ use mathlib.Core.Path.{_≡_, refl, sym, ap, _∙_, subst}
 use mathlib.Core.Bool.{Bool, true, false, not}
 use mathlib.Core.List.{List, [], _∷_}
 use native.Mathlib.Omega.{arith}
-use lib.ListN.{length, getD, take, drop, length-drop, getD-replicate}
+use lib.ListN.{length, take, drop, length-drop}
 use borrow.Author.Tests.{not-true, not-false}
-use Rattle.meaning.specs.Facts.{variables}
-use Rattle.files.specs.Numbers.{MARK, PLACE, NOCARD, BARE}
+use Rattle.files.specs.Numbers.{PLACE}
 use Rattle.files.specs.Marks.{KD, RU, BA, TE, HE, SW, EN, isMark}
-use Rattle.files.specs.Judge.{Verdict, accepted, refused, Judged, go, stop, told, demand, afterRecord, judge}
+use Rattle.files.specs.Judge.{Verdict, accepted, refused, Judged, go, told, demand, afterRecord, judge}
 use Rattle.files.specs.InPlace.{byteAt}
 use Rattle.files.specs.Book.{Mark, markOf, Reading, emptyReading, mayStandHere, fields, afterPlace, bookRecord, bookOf, judgeBook}
-use Rattle.files.specs.Book as B
 use Rattle.kinds.specs.declared.Kinds.{Kinds}
 use Rattle.kinds.specs.Listed.{kindsOf, kindsFrom, noKinds}
 use Rattle.book.specs.Told.{bookTold}
-use Rattle.book.specs.Reads.{Ends}
 use Rattle.book.specs.Holds.{withRules, Holds, markIs, MayStand, lackTold, Lacks, Led, FieldsRead, RecordReads}
 use Rattle.book.specs.declared.BookChecked.{BookChecked}
 use Rattle.book.specs.declared.BookChecked.the-variants as C
@@ -28,6 +25,7 @@ use Rattle.book.specs.declared.Lack.the-variants as L
 use Rattle.book.specs.declared.Took.{Took}
 use Rattle.book.specs.declared.Took.the-variants as T
 use Rattle.book.specs.declared.Next.{Next}
+use Rattle.book.proofs.SetLaws.{in-none}
 use Rattle.book.proofs.FieldLaws.{byte-at, demand-true, demand-false, ends, part-from}
 
 -- ---- the mark
@@ -177,8 +175,8 @@ turn-start file kinds k book e = rw (e, k) (record {
     heads = refl;
     sweeps = refl;
     carded = refl;
-    own = λ v u. getD-replicate variables v false false u;
-    bound = λ v u. getD-replicate variables v false false u;
+    own = λ v u. in-none v;
+    bound = λ v u. in-none v;
   };
   same = refl;
 })

@@ -1,25 +1,26 @@
 -- The records by their marks: MANY, then the fields, and the state with what is read. A law for each `return`.
-use Prim.Native.Nat.{ℕ, zero, suc, _+_, _-_, _≤_, _<_}
+use Prim.Native.Nat.{ℕ, _+_, _-_, _≤_, _<_}
 use mathlib.Core.Path.{_≡_, refl, sym, ap, ap₂, _∙_, subst}
 use mathlib.Core.Bool.{Bool, true, false, _&&_, _||_, or-false, or-assoc}
 use mathlib.Core.Option.{none, some}
 use mathlib.Core.List.{List, [], _∷_, _++_}
 use native.Mathlib.Omega.{arith}
-use lib.ListN.{length, getD, drop, set, replicate, length-append, length-drop, length-set, getD-replicate, List·getD-eq-default}
-use lib.Dec.{eqb, leb, ltb}
+use lib.ListN.{length, getD, drop, set, length-append, length-drop, length-set, List·getD-eq-default}
+use lib.Dec.{eqb, ltb}
 use borrow.Author.Tests.{lt-ltb, le-ltb, ltb-false}
-use Rattle.meaning.specs.Facts.{Kind, noKind, variables, mostKinds, mostRules, mostSweeps, isCard}
+use Rattle.meaning.specs.Facts.{Kind, noKind, mostKinds, mostRules, mostSweeps, isCard}
 use Rattle.meaning.specs.Rules.{Term, constant, Atom, Test, Sweep, Rule, occursInTerms, occursIn}
 use Rattle.meaning.specs.WellFormed.{anyVariable}
 use Rattle.files.specs.Numbers.{MANY, TRAIL}
-use Rattle.files.specs.Judge.{Judged, go, stop, told, demand, atEnd}
+use Rattle.files.specs.Judge.{Judged, go, told, atEnd}
 use Rattle.files.specs.Board.{isOfClass}
 use Rattle.files.specs.InPlace.{comparisonOf}
-use Rattle.files.specs.Book.{Mark, Open, noRule, inRule, inSweep, Reading, emptyRule, emptySweep, groups, withGroups, rulesClosed, sweepOpened, sweepsSoFar, isInRule, mayStandHere, hasCard, mostInGroup, isBound, fields, atom}
+use Rattle.files.specs.Book.{Open, noRule, inRule, inSweep, Reading, emptyRule, emptySweep, groups, withGroups, rulesClosed, sweepOpened, sweepsSoFar, isInRule, mayStandHere, hasCard, mostInGroup, isBound, fields, atom}
 use Rattle.files.specs.Book as B
 use Rattle.kinds.specs.declared.Kinds.{Kinds}
 use Rattle.kinds.specs.Listed.{kindsOf, withKind}
 use Rattle.kinds.specs.KindLaws.{with-room, with-listed}
+use Rattle.book.specs.Sets.{allVariables}
 use Rattle.book.specs.Reads.{Ends, Fields, Reads, Marked, Known, AtomReads, kindFields, KindReads, testFields, TestReads}
 use Rattle.book.specs.Holds.{withRules, ownBody, Stands, Holds, Most, Led, FieldsRead}
 use Rattle.book.specs.declared.BookChecked.the-variants as C
@@ -27,6 +28,7 @@ use Rattle.book.specs.declared.Book.{Book}
 use Rattle.book.specs.declared.Took.{Took}
 use Rattle.book.specs.declared.Took.the-variants as T
 use Rattle.book.specs.declared.Scan.{Scan}
+use Rattle.book.proofs.SetLaws.{in-none, in-all}
 use Rattle.book.proofs.FieldLaws.{demand-true, demand-false, ends, count-is}
 use Rattle.book.proofs.StateLaws.{apart, needs-rule}
 
@@ -147,8 +149,8 @@ module _ (book : Book) (at : ℕ) where
         heads = refl;
         sweeps = refl;
         carded = refl;
-        own = λ v u. getD-replicate variables v false false u;
-        bound = λ v u. getD-replicate variables v false false u;
+        own = λ v u. in-none v;
+        bound = λ v u. in-none v;
       };
     };
   })
@@ -261,7 +263,7 @@ module _ (g : Sweep) where
   regrouped-sweeps (inSweep rule sweep) = refl
 
 -- the state with other groups
-abbrev regrouped : Book → ℕ → ℕ → ℕ → Bool → List Bool → List Bool → Book
+abbrev regrouped : Book → ℕ → ℕ → ℕ → Bool → ℕ → ℕ → Book
 regrouped book body tests heads carded own bound = record {
   kinds = book .kinds;
   rules = book .rules;
@@ -274,7 +276,7 @@ regrouped book body tests heads carded own bound = record {
   bound = bound;
 }
 
-regrouped-holds : (book : Book) (r : Reading) (g : Sweep) (carded : Bool) (own bound : List Bool) → Holds book r → isInRule (r .now) ≡ true
+regrouped-holds : (book : Book) (r : Reading) (g : Sweep) (carded : Bool) (own bound : ℕ) → Holds book r → isInRule (r .now) ≡ true
     → carded ≡ hasCard (r .kinds) (ownBody (withGroups (r .now) g)) → Marked own (λ v. occursIn v (ownBody (withGroups (r .now) g)))
     → Marked bound (isBound (withGroups (r .now) g)) → (body tests heads : ℕ) → length (g .body) ≡ body → length (g .tests) ≡ tests → length (g .heads) ≡ heads
     → Holds (regrouped book body tests heads carded own bound) (record { kinds = r .kinds; rules = r .rules; now = withGroups (r .now) g })
@@ -317,7 +319,7 @@ module _ (tests : List Test) (heads : List Atom) where
       (λ v u. i .own v u ∙ ap (occursIn v) (later-body (r .now))) (λ v u. i .bound v u ∙ later-bound (r .now) v) (book .body) m n (i .body) y z
 
 -- an atom of the kinds that are read
-atom-reads : (book : Book) (rest : List ℕ) (end at : ℕ) (free known : List Bool) (scan : Scan) → AtomReads (book .kinds) rest end at free known scan
+atom-reads : (book : Book) (rest : List ℕ) (end at free known : ℕ) (scan : Scan) → AtomReads (book .kinds) rest end at free known scan
     → (r : Reading) → Holds book r → (bound : ℕ → Bool) → Marked free bound
     → Reads rest end (atom end (r .kinds) bound at (drop 2 rest)) (λ a. (a .kind ≡ getD rest 2 0) × Known known (a .terms) (scan .known)) (scan .took)
 atom-reads book rest end at free known scan y r i bound b =
@@ -443,12 +445,12 @@ module _ (book : Book) (rest : List ℕ) (end at most : ℕ) (q : Most book most
         (le-ltb (length (groups (r .now) .body)) (mostInGroup (r .now)) (omega (arith, i .body))));
   }
 
-  module _ (h : book .body < most) (scan : Scan) (y : AtomReads (book .kinds) rest end at (replicate variables true) (book .bound) scan) where
+  module _ (h : book .body < most) (scan : Scan) (y : AtomReads (book .kinds) rest end at allVariables (book .bound) scan) where
     -- the state with the atom
-    abbrev withAtom : Bool → List Bool → Book
+    abbrev withAtom : Bool → ℕ → Book
     withAtom carded own = regrouped book (book .body + 1) (book .tests) (book .heads) carded own (scan .known)
 
-    ba-reads : (carded : Bool) (own : List Bool)
+    ba-reads : (carded : Bool) (own : ℕ)
         → ((r : Reading) → Holds book r → isInRule (r .now) ≡ true → (a : Atom) → a .kind ≡ getD rest 2 0 → Marked (scan .known) (λ v. isBound (r .now) v || occursInTerms v (a .terms))
         → (carded ≡ hasCard (r .kinds) (ownBody (withGroups (r .now) (grown a (r .now)))))
         × Marked own (λ v. occursIn v (ownBody (withGroups (r .now) (grown a (r .now))))))
@@ -468,7 +470,7 @@ module _ (book : Book) (rest : List ℕ) (end at most : ℕ) (q : Most book most
           regrouped-holds book r (grown a (r .now)) carded own (scan .known) i w (o .0) (o .1)
           (λ v u. known v u ∙ sym (grown-bound a (r .now) w v)) (book .body + 1) (book .tests) (book .heads)
           (snoc-length (groups (r .now) .body) a (book .body) (i .body)) (i .tests) (i .heads))
-          (scan .took) (atom-reads book rest end at (replicate variables true) (book .bound) scan y r i anyVariable (λ v u. getD-replicate variables v true false u));
+          (scan .took) (atom-reads book rest end at allVariables (book .bound) scan y r i anyVariable (λ v u. in-all v u));
     }
 
     pub ba-in-rule : book .sweeps ≡ 0 → (kind : ℕ) → kind ≡ getD rest 2 0 → (card : Bool) → card ≡ isOfClass (kindsOf (book .kinds)) true kind

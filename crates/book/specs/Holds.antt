@@ -3,8 +3,8 @@ use Prim.Native.Nat.{ℕ, _≤_, _<_}
 use mathlib.Core.Path.{_≡_}
 use mathlib.Core.Bool.{Bool, true, false}
 use mathlib.Core.List.{List, []}
-use lib.ListN.{length, drop, replicate}
-use Rattle.meaning.specs.Facts.{variables, mostKinds}
+use lib.ListN.{length, drop}
+use Rattle.meaning.specs.Facts.{mostKinds}
 use Rattle.meaning.specs.Rules.{Atom, occursIn}
 use Rattle.files.specs.Numbers.{NOCARD, BARE}
 use Rattle.files.specs.Judge.{Judged, go, stop}
@@ -34,8 +34,8 @@ withRules kinds rules = record {
   heads = 0;
   sweeps = 0;
   carded = false;
-  own = replicate variables false;
-  bound = replicate variables false;
+  own = 0;
+  bound = 0;
 }
 
 -- the open rule's own body

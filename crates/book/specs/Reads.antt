@@ -1,12 +1,12 @@
 -- What the reader's answers on the fields of a record say, in the terms of `files`.
-use Prim.Native.Nat.{ℕ, _+_, _≤_, _<_}
+use Prim.Native.Nat.{ℕ, _≤_, _<_}
 use mathlib.Core.Path.{_≡_}
-use mathlib.Core.Bool.{Bool, true, false, _||_}
-use mathlib.Core.List.{List, [], _∷_}
+use mathlib.Core.Bool.{Bool, _||_}
+use mathlib.Core.List.{List}
 use lib.ListN.{length, getD, drop}
 use lib.Dec.{leb}
 use Rattle.meaning.specs.Facts.{variables, mostKinds, mostNumbers}
-use Rattle.meaning.specs.Rules.{Term, Atom, occursInTerms}
+use Rattle.meaning.specs.Rules.{Term, occursInTerms}
 use Rattle.files.specs.Numbers.{FIELD}
 use Rattle.files.specs.Judge.{Verdict, told, Judged, demand, byte, afterRecord}
 use Rattle.files.specs.InPlace.{termAt}
@@ -14,6 +14,7 @@ use Rattle.files.specs.Book.{Reading, term, terms, atom}
 use Rattle.kinds.specs.declared.Kinds.{Kinds}
 use Rattle.kinds.specs.Listed.{kindsOf}
 use Rattle.book.specs.Told.{bookTold}
+use Rattle.book.specs.Sets.{isIn}
 use Rattle.book.specs.declared.BookChecked.{BookChecked}
 use Rattle.book.specs.declared.Took.{Took}
 use Rattle.book.specs.declared.Took.the-variants as T
@@ -39,24 +40,24 @@ abbrev pub Reads : {A : Type 0} → List ℕ → ℕ → Fields A → (A → Typ
 Reads rest end fields P (T.Bytes m) = Found rest fields P m
 Reads rest end fields P (T.Told checked) = (next : _) → Ends end (fields next) checked
 
--- the array holds the test: which of the variables are in
-abbrev pub Marked : List Bool → (ℕ → Bool) → Type 0
-Marked array test = (v : ℕ) → v < variables → getD array v false ≡ test v
+-- the variables of the set are those of the test
+abbrev pub Marked : ℕ → (ℕ → Bool) → Type 0
+Marked set test = (v : ℕ) → v < variables → isIn set v ≡ test v
 
 -- the variables known after some terms
-abbrev pub Known : List Bool → List Term → List Bool → Type 0
-Known known ts after = Marked after (λ v. getD known v false || occursInTerms v ts)
+abbrev pub Known : ℕ → List Term → ℕ → Type 0
+Known known ts after = Marked after (λ v. isIn known v || occursInTerms v ts)
 
 -- ---- the fields; `free` are the variables that may stand there
 
-pub record TermReads (rest : List ℕ) (end at : ℕ) (free : List Bool) (r : Took) : Type 0 where
+pub record TermReads (rest : List ℕ) (end at free : ℕ) (r : Took) : Type 0 where
   pub reads : (bound : ℕ → Bool) → Marked free bound → Reads rest end (term end bound at rest) (λ t. t ≡ termAt rest 0) r
 
-pub record TermsRead (rest : List ℕ) (end at count : ℕ) (free known : List Bool) (r : Scan) : Type 0 where
+pub record TermsRead (rest : List ℕ) (end at count free known : ℕ) (r : Scan) : Type 0 where
   pub reads : (bound : ℕ → Bool) → Marked free bound
       → Reads rest end (terms end bound at count (drop 3 rest)) (λ ts. Known known ts (r .known)) (r .took)
 
-pub record AtomReads (kinds : Kinds) (rest : List ℕ) (end at : ℕ) (free known : List Bool) (r : Scan) : Type 0 where
+pub record AtomReads (kinds : Kinds) (rest : List ℕ) (end at free known : ℕ) (r : Scan) : Type 0 where
   pub reads : kinds .count ≤ mostKinds → (bound : ℕ → Bool) → Marked free bound
       → Reads rest end (atom end (kindsOf kinds) bound at (drop 2 rest)) (λ a. (a .kind ≡ getD rest 2 0) × Known known (a .terms) (r .known)) (r .took)
 
@@ -74,5 +75,5 @@ abbrev pub testFields : List ℕ → ℕ → ℕ → (ℕ → Bool) → Fields (
 testFields rest end at bound next =
     byte end rest λ number rest₁. demand (leb number 3) FIELD at (terms end bound at 2 rest₁ λ ts rest₂. next (number, ts) rest₂)
 
-pub record TestReads (rest : List ℕ) (end at : ℕ) (free : List Bool) (r : Took) : Type 0 where
+pub record TestReads (rest : List ℕ) (end at free : ℕ) (r : Took) : Type 0 where
   pub reads : (bound : ℕ → Bool) → Marked free bound → Reads rest end (testFields (drop 2 rest) end at bound) (λ t. Unit {0}) r

@@ -8,6 +8,8 @@ ghost use Rattle.files.specs.Book.{markOf, judgeBook};
 ghost use Rattle.files.specs.Book as B;
 ghost use Rattle.files.specs.InPlace.{byteAt, termAt, kindsAt};
 ghost use Rattle.kinds.specs.Listed.{kindsOf};
+ghost use Rattle.meaning.specs.Facts.{variables};
+ghost use Rattle.book.specs.Sets.{isIn, withVariable};
 ghost use Rattle.book.specs.Told.{bookTold};
 ghost use Rattle.book.specs.Reads.{Known, TermReads, TermsRead, AtomReads, KindReads, TestReads};
 ghost use Rattle.book.specs.Holds.{withRules, markIs, inBody, MayStand, Lacks, Most, FieldsRead, RecordReads};
@@ -16,8 +18,8 @@ use fields::starts_with;
 use fields::two_at;
 use kinds::Kinds;
 
-// Which of the variables 0 to 11.
-type Variables = [bool; Book::VARIABLES];
+// A set of variables: bit v is variable v.
+type Variables = u16;
 
 // A book as far as it is read.
 pub struct Book {
@@ -49,6 +51,9 @@ impl Book {
 
     pub const VARIABLES: usize = 12;
 
+    // every variable
+    const ALL: Variables = 0xfff;
+
     pub const NUMBERS: usize = 4;
 
     pub const LONGEST: usize = 17794;
@@ -79,8 +84,8 @@ impl Book {
             heads: 0,
             sweeps: 0,
             carded: false,
-            own: [false; Book::VARIABLES],
-            bound: [false; Book::VARIABLES],
+            own: 0,
+            bound: 0,
         }
     }
 }
@@ -136,6 +141,22 @@ enum Lack {
     Atom,
 }
 
+// Is the variable in the set?
+fn has_variable(set: Variables, v: usize) -> bool
+    requires { ⌜ v < variables ⌝ }
+    ensures { λ r. ⌜ r ≡ isIn set v ⌝ }
+{
+    (set >> v) % 2 == 1
+}
+
+// The set with the variable.
+fn with_variable(set: Variables, v: usize) -> Variables
+    requires { ⌜ v < variables ⌝ }
+    ensures { λ r. ⌜ r ≡ withVariable set v ⌝ }
+{
+    set | (1u16 << v)
+}
+
 // One term; `free` are the variables that it may be. CUT is told at `end`, all else at `at`.
 fn read_term(rest: &[u8], end: usize, at: usize, free: Variables) -> Took
     ensures { λ r. ⌜ TermReads (now (rest .entry)) end at free r ⌝ }
@@ -157,7 +178,7 @@ fn read_term(rest: &[u8], end: usize, at: usize, free: Variables) -> Took
     if Book::VARIABLES <= v {
         return Took::Told(BookChecked::Field(at));
     }
-    if free[v] {
+    if has_variable(free, v) {
         return Took::Bytes(3);
     }
     Took::Told(BookChecked::Loose(at))
@@ -174,9 +195,7 @@ fn with_term(known: Variables, term: &[u8]) -> Variables
     if Book::VARIABLES <= v {
         return known;
     }
-    let mut after = known;
-    after[v] = true;
-    after
+    with_variable(known, v)
 }
 
 // So many terms, from the record's byte 3 on.
@@ -197,8 +216,7 @@ fn read_terms(
     while i < count {
         match read_term(left, end, at, free) {
             Took::Bytes(m) => {
-                let after = with_term(now, left);
-                now = after;
+                now = with_term(now, left);
                 left = &left[m..];
                 i += 1;
             }
@@ -335,9 +353,8 @@ fn read_ba(book: Book, rest: &[u8], end: usize, at: usize) -> Next
             book,
         };
     }
-    let all = [true; Book::VARIABLES];
     let bound = book.bound;
-    let scan = read_atom(kinds, rest, end, at, all, bound);
+    let scan = read_atom(kinds, rest, end, at, Book::ALL, bound);
     let took = scan.took;
     let known = scan.known;
     let mut next = book;

@@ -1,5 +1,4 @@
 -- `most` says how many a group of what is open may have.
-use borrow.Author.Needs.{needs}
 use Rattle.book.proofs.StateLaws.{most-rule, most-sweep}
 use Rattle.book.proofs.most.Statement.{statement}
 use Rattle.book.proofs.most.Tie as tie

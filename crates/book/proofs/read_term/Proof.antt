@@ -28,8 +28,8 @@ cast-v c = search needs
 returns-5 : tie.Need-returns-5
 returns-5 c = search term-no-variable
 
-array-read-if6 : tie.Need-array-read-if6
-array-read-if6 c = search needs
+has-variable-requires : tie.Need-has-variable-requires
+has-variable-requires c κs = search needs
 
 returns-6 : tie.Need-returns-6
 returns-6 c = search term-variable
@@ -49,6 +49,6 @@ read-term-spec =
     two-at-requires
     cast-v
     returns-5
-    array-read-if6
+    has-variable-requires
     returns-6
     returns-7)

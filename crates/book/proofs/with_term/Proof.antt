@@ -19,8 +19,8 @@ cast-v c = search needs
 returns-2 : tie.Need-returns-2
 returns-2 c = search known-no-variable
 
-array-write-after : tie.Need-array-write-after
-array-write-after c = search needs
+with-variable-requires : tie.Need-with-variable-requires
+with-variable-requires c κs = search needs
 
 returns-3 : tie.Need-returns-3
 returns-3 c = search known-variable
@@ -28,11 +28,4 @@ returns-3 c = search known-variable
 pub with-term-spec : {M : Type 1} → statement M
 with-term-spec =
     tie.close
-    (tie.spec
-    byte-at-requires
-    returns
-    two-at-requires
-    cast-v
-    returns-2
-    array-write-after
-    returns-3)
+    (tie.spec byte-at-requires returns two-at-requires cast-v returns-2 with-variable-requires returns-3)
