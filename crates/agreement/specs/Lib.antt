@@ -1,5 +1,5 @@
--- Demand 3: strip and book never part. What is promised stands in Strip (the translated strip), Attempts and Bound (one attempt), Boards (a firing
--- keeps boards well formed) and Runs (the run); the other files, in this order, are the way there.
+-- Demand 3: strip and book never part. What is promised stands in Strip (the translated strip), Attempts and Bound (one attempt) and Runs (the
+-- run); the other files, in this order, are the way there.
 pub mod Tools
 pub mod Leads
 pub mod Registers
@@ -17,6 +17,5 @@ pub mod Sizes
 pub mod Strip
 pub mod Attempts
 pub mod Bound
-pub mod Boards
 pub mod Repeats
 pub mod Runs

@@ -15,7 +15,7 @@ use Rattle.meaning.specs.WellFormed.{GoodBook, GoodBoard}
 use Rattle.agreement.specs.Tools.{impossible}
 use Rattle.agreement.specs.Attempts.{attempt-done-or-spent, attempt-done}
 use Rattle.agreement.specs.Bound.{attempt-2^60-enough}
-use Rattle.agreement.specs.Boards.{fire-keeps-good}
+use Rattle.firings.specs.Keeping.{firing-keeps-good}
 use Rattle.agreement.specs.Repeats.{Plain, Stopped, short-or-whole, short-spent, whole-plain, Keeps, repeat-same, repeat-keeps}
 
 abbrev pub isSpent : Attempt → Bool
@@ -41,7 +41,7 @@ module _ {book : Book} {board : Board} (good : GoodBook book) (board-good : Good
   ran = runStrip (translate book) limit allowance board
 
   keeps : Keeps (GoodBoard (book .kinds)) (attempt (translate book) allowance)
-  keeps b rule b′ g e = fire-keeps-good good g (attempt-done good g allowance e)
+  keeps b rule b′ g e = firing-keeps-good book good g (attempt-done good g allowance e)
 
   -- "ends with the answer and board of demand 2, unless it reports the allowance spent": the strip's run is the book's, with each attempt spent
   -- that takes more steps than allowed.
@@ -100,11 +100,3 @@ module _ {book : Book} {board : Board} (good : GoodBook book) (board-good : Good
   pub strip-run-keeps-good : GoodBoard (book .kinds) (ran .board)
   unfolding runStrip
   strip-run-keeps-good = repeat-keeps (GoodBoard (book .kinds)) _ keeps limit board 0 noRule board-good
-
--- and so does a book's run.
-pub run-keeps-good : {book : Book} {board : Board} → GoodBook book → GoodBoard (book .kinds) board → (limit : ℕ)
-    → GoodBoard (book .kinds) (run book limit board .board)
-unfolding run
-run-keeps-good {book} {board} good board-good limit =
-    repeat-keeps (GoodBoard (book .kinds)) (λ b. done (fire book b))
-    (λ b rule b′ g e. fire-keeps-good {number = rule} good g (cc)) limit board 0 noRule board-good

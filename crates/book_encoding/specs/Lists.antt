@@ -8,11 +8,8 @@ use lib.ListN.{length}
 use lib.Dec.{eqb}
 use borrow.Author.Tests.{eqb-true}
 use Rattle.meaning.specs.Basics.{All}
+pub use Rattle.files.specs.Judge.{Bytes}
 use Rattle.files.specs.Encode.{concatMap}
-
--- every number of the file is a byte
-abbrev pub Bytes : List ℕ → Type 0
-Bytes file = All (λ b. b < 256) file
 
 -- ---- numbers of two bytes, low byte first
 

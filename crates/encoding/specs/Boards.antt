@@ -1,6 +1,6 @@
 -- Board files: a file is accepted exactly if it is the encoding of a good board; that board is the only one; and it is what is read in place.
 -- (Proved through rows as they stand in a file, `Written`.)
-use Prim.Native.Nat.{ℕ, zero, suc, _+_, _*_, _≤_}
+use Prim.Native.Nat.{ℕ, zero, suc, _*_, _≤_}
 use native.Mathlib.Omega.{arith}
 use mathlib.Core.Path.{_≡_, refl, sym, ap, ap₂, _∙_, subst}
 use mathlib.Core.Logic.{_↔_}

@@ -6,11 +6,8 @@ use mathlib.Core.List.{List, [], _∷_, _++_}
 use lib.ListN.{length, getD}
 use Rattle.meaning.specs.Basics.{All}
 use Rattle.meaning.specs.Facts.{numberLimit}
+pub use Rattle.files.specs.Judge.{Bytes}
 use Rattle.files.specs.Encode.{twoBytes, concatMap}
-
--- a file holds bytes
-abbrev pub Bytes : List ℕ → Type 0
-Bytes file = All (λ b. b < 256) file
 
 -- it does where each place of it does
 pub bytes-of : (file : List ℕ) → ((i : ℕ) → getD file i 0 < 256) → Bytes file

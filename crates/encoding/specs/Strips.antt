@@ -1,6 +1,6 @@
 -- Strip files: a file is accepted exactly if it is the encoding of a good strip; that strip is the only one; and it is what is read in place.
 -- (Proved word by word, `StripWords`; here the file's length joins in.)
-use Prim.Native.Nat.{ℕ, _+_, _*_, _/_, _%_, _≤_, _<_}
+use Prim.Native.Nat.{ℕ, _*_, _/_, _%_, _≤_, _<_}
 use native.Mathlib.Nat.{zero-add}
 use native.Mathlib.Omega.{arith}
 use mathlib.Core.Path.{_≡_, refl, sym, ap, _∙_, subst}
