@@ -1,0 +1,152 @@
+// The engine for other languages: document 01's answers behind six functions of C. Every function takes any bytes.
+use board::BoardChecked;
+use book::BookChecked;
+use strip::StripChecked;
+ghost use mathlib.Core.Path.{_≡_};
+ghost use Prim.Native.Nat.{ℕ, _<_};
+ghost use Rattle.files.specs.Numbers as N;
+ghost use Rattle.files.specs.Numbers.{book, strip, board};
+ghost use Rattle.files.specs.Entries.{checkBook, checkBoard, checkStrip};
+ghost use Rattle.book.specs.Told.{bookTold};
+ghost use Rattle.board.specs.Told.{boardTold};
+ghost use Rattle.strip.specs.Told.{stripTold};
+ghost use Rattle.engine.specs.Shown.{answerOf, shown, toldAnswer, refusedBy, atMostPlace, isNone};
+
+// What every entry answers: document 01's number, the file it is about (0 none, 1 book, 2 strip, 3 board, 4 output), the last fired rule, the
+// firings done, the place in the file, the bytes written.
+#[repr(C)]
+pub struct Answer {
+    pub number: u8,
+    pub file: u8,
+    pub rule: u8,
+    pub firings: u16,
+    pub place: u32,
+    pub length: u32,
+}
+
+// A place in 32 bits.
+fn place_in_32(place: usize) -> u32
+    ensures { λ r. ⌜ r ≡ atMostPlace place ⌝ }
+{
+    if place < 4294967295 {
+        return place as u32;
+    }
+    4294967295
+}
+
+// A refusal: of a file, by number and place.
+fn refusal(file: u8, number: u8, place: usize) -> Answer
+    ensures { λ r. ⌜ answerOf r ≡ refusedBy file number place ⌝ }
+{
+    Answer {
+        number,
+        file,
+        rule: 255,
+        firings: 0,
+        place: place_in_32(place),
+        length: 0,
+    }
+}
+
+// A check that accepts.
+fn acceptance() -> Answer
+    ensures { λ r. ⌜ answerOf r ≡ N.acceptance 0 ⌝ }
+{
+    Answer {
+        number: 0,
+        file: 0,
+        rule: 255,
+        firings: 0,
+        place: 0,
+        length: 0,
+    }
+}
+
+// The answer of what a check of a book tells.
+fn of_book(told: BookChecked) -> Answer
+    ensures { λ r. ⌜ answerOf r ≡ shown (toldAnswer book (bookTold told)) ⌝ }
+{
+    match told {
+        BookChecked::Accepted => acceptance(),
+        BookChecked::Cut(place) => refusal(1, 1, place),
+        BookChecked::Mark(place) => refusal(1, 2, place),
+        BookChecked::Place(place) => refusal(1, 3, place),
+        BookChecked::Nocard(place) => refusal(1, 4, place),
+        BookChecked::Bare(place) => refusal(1, 5, place),
+        BookChecked::Many(place) => refusal(1, 6, place),
+        BookChecked::Field(place) => refusal(1, 7, place),
+        BookChecked::Loose(place) => refusal(1, 8, place),
+        BookChecked::Trail(place) => refusal(1, 9, place),
+    }
+}
+
+// The answer of what a check of a board tells.
+fn of_board(told: BoardChecked) -> Answer
+    ensures { λ r. ⌜ answerOf r ≡ shown (toldAnswer board (boardTold told)) ⌝ }
+{
+    match told {
+        BoardChecked::Accepted => acceptance(),
+        BoardChecked::Cut(place) => refusal(3, 1, place),
+        BoardChecked::Mark(place) => refusal(3, 2, place),
+        BoardChecked::Place(place) => refusal(3, 3, place),
+        BoardChecked::Many(place) => refusal(3, 6, place),
+        BoardChecked::Field(place) => refusal(3, 7, place),
+        BoardChecked::Trail(place) => refusal(3, 9, place),
+    }
+}
+
+// The answer of what a check of a strip tells.
+fn of_strip(told: StripChecked) -> Answer
+    ensures { λ r. ⌜ answerOf r ≡ shown (toldAnswer strip (stripTold told)) ⌝ }
+{
+    match told {
+        StripChecked::Accepted => acceptance(),
+        StripChecked::Refused(word) => refusal(2, 11, word),
+    }
+}
+
+// Is the file a rule book?
+#[no_mangle]
+pub extern "C" fn llwybrenu_check_book(book: &[u8]) -> Answer
+    ensures { λ r. ⌜ answerOf r ≡ shown (checkBook (now (book .entry)) .answer) ⌝ }
+{
+    of_book(book::check_book(book))
+}
+
+// Is the file a rule strip?
+#[no_mangle]
+pub extern "C" fn llwybrenu_check_strip(strip: &[u8]) -> Answer
+    ensures { λ r. ⌜ answerOf r ≡ shown (checkStrip (now (strip .entry)) .answer) ⌝ }
+{
+    of_strip(strip::check_strip(strip))
+}
+
+// Does the check accept the book?
+fn accepts(told: BookChecked) -> bool
+    ensures { λ r. ⌜ r ≡ isNone (bookTold told) ⌝ }
+{
+    match told {
+        BookChecked::Accepted => true,
+        BookChecked::Cut(_) => false,
+        BookChecked::Mark(_) => false,
+        BookChecked::Place(_) => false,
+        BookChecked::Nocard(_) => false,
+        BookChecked::Bare(_) => false,
+        BookChecked::Many(_) => false,
+        BookChecked::Field(_) => false,
+        BookChecked::Loose(_) => false,
+        BookChecked::Trail(_) => false,
+    }
+}
+
+// Is the second file a board of the book that the first one is?
+#[no_mangle]
+pub extern "C" fn llwybrenu_check_board(book: &[u8], board: &[u8]) -> Answer
+    ensures { λ r. ⌜ answerOf r ≡ shown (checkBoard (now (book .entry)) (now (board .entry)) .answer) ⌝ }
+{
+    let told = book::check_book(book);
+    if accepts(told) {
+        return of_board(board::check_board(book::kinds(book), board));
+    }
+    of_book(told)
+}
