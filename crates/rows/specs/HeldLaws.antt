@@ -2,11 +2,12 @@
 -- the first on.
 use Prim.Native.Nat.{ℕ, zero, suc, _+_, _*_, _≤_, _<_}
 use native.Mathlib.Nat.{add-zero}
+use native.Mathlib.Numerals.{add-one}
 use native.Mathlib.Omega.{arith}
 use mathlib.Core.Path.{_≡_, refl, sym, ap, ap₂, _∙_}
 use mathlib.Core.List.{List, [], _∷_, _++_, map}
 use lib.ListN.{length, getD, take, set, length-set}
-use lib.Seq.{getD-set-same, getD-set-other}
+use lib.Seq.{getD-set-same, getD-set-other, set-getD}
 use Rattle.meaning.specs.Basics.{All}
 use Rattle.meaning.specs.Facts.{Kind, Fact, arityOf, mostNumbers, noKind}
 use Rattle.meaning.specs.WellFormed.{GoodKind}
@@ -91,6 +92,14 @@ pub row-apart : (kind numbers : List ℕ) (row k : ℕ) (four : List ℕ) (r : �
     → rowAt (set kind row k) (withFour numbers (4 * row) four) r ≡ rowAt kind numbers r
 row-apart kind numbers row k four r h = row-equal _ _ _ _ (getD-set-other kind row r k 0 h) (four-apart numbers row four r h)
 
+-- a row that is written as it stands
+pub row-self : (kind : List ℕ) (row : ℕ) → set kind row (getD kind row 0) ≡ kind
+row-self kind row = set-getD kind row 0
+
+pub four-self : (numbers : List ℕ) (at : ℕ) → withFour numbers at (fourFrom numbers at) ≡ numbers
+four-self numbers at =
+    rw (set-getD numbers at 0, set-getD numbers (at + 1) 0, set-getD numbers (at + 2) 0, set-getD numbers (at + 3) 0)
+
 -- ---- rows from a row on
 
 pub rows-length : (kind numbers : List ℕ) (row n : ℕ) → length (rowsFrom kind numbers row n) ≡ n
@@ -114,6 +123,33 @@ rows-before kind numbers row k four r (suc n) h =
     ap₂ _∷_ (row-apart kind numbers row k four r (λ q. omega arith)) (rows-before kind numbers row k four (suc r) n (omega arith))
 
 -- ---- facts written one after another
+
+-- the first of them, then the others
+pub kinds-step : (kind : List ℕ) (row : ℕ) (f : Fact) (more : List Fact) → kindsWith (set kind row (f .kind)) (row + 1) more ≡ kindsWith kind row (f ∷ more)
+unfolding kindsWith
+kinds-step kind row f more = rw (add-one row)
+
+pub numbers-step : (numbers : List ℕ) (row : ℕ) (f : Fact) (more : List Fact)
+    → numbersWith (withFour numbers (4 * row) (f .numbers)) (row + 1) more ≡ numbersWith numbers row (f ∷ more)
+unfolding numbersWith
+numbers-step numbers row f more = rw (add-one row)
+
+-- those of two lists
+pub kinds-append : (kind : List ℕ) (row : ℕ) (facts more : List Fact)
+    → kindsWith (kindsWith kind row facts) (row + length facts) more ≡ kindsWith kind row (facts ++ more)
+unfolding kindsWith
+kinds-append kind row [] more = rw (add-zero row)
+kinds-append kind row (f ∷ facts) more =
+    let e : row + suc (length facts) ≡ suc row + length facts = omega arith in
+    rw e (kinds-append (set kind row (f .kind)) (suc row) facts more)
+
+pub numbers-append : (numbers : List ℕ) (row : ℕ) (facts more : List Fact)
+    → numbersWith (numbersWith numbers row facts) (row + length facts) more ≡ numbersWith numbers row (facts ++ more)
+unfolding numbersWith
+numbers-append numbers row [] more = rw (add-zero row)
+numbers-append numbers row (f ∷ facts) more =
+    let e : row + suc (length facts) ≡ suc row + length facts = omega arith in
+    rw e (numbers-append (withFour numbers (4 * row) (f .numbers)) (suc row) facts more)
 
 -- rows before the first keep what they had
 pub below-written : (kind numbers : List ℕ) (row : ℕ) (facts : List Fact) (r n : ℕ) → r + n ≤ row

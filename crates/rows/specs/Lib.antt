@@ -2,3 +2,5 @@ pub mod Held
 pub mod HeldLaws
 pub mod Loads
 pub mod LoadsLaws
+pub mod Settles
+pub mod SettlesLaws
