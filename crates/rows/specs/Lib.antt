@@ -4,3 +4,5 @@ pub mod Loads
 pub mod LoadsLaws
 pub mod Settles
 pub mod SettlesLaws
+pub mod Writes
+pub mod WritesLaws
