@@ -6,3 +6,4 @@ pub mod Settles
 pub mod SettlesLaws
 pub mod Writes
 pub mod WritesLaws
+pub mod Examples

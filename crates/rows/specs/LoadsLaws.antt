@@ -1,17 +1,17 @@
 -- A board that is loaded is the board that the arrays hold: at most 256 cards and 128 notices, each fact with the numbers of its kind.
 use Prim.Native.Nat.{ℕ, zero, suc, _+_, _≤_}
 use native.Mathlib.Omega.{arith}
-use mathlib.Core.Path.{_≡_, refl, sym, ap, ap₂, _∙_}
+use mathlib.Core.Path.{_≡_, refl, sym, ap, _∙_}
 use mathlib.Core.Bool.{Bool, true, false}
-use mathlib.Core.List.{List, [], _∷_, map}
+use mathlib.Core.List.{List, [], map}
 use lib.ListN.{length}
 use Rattle.meaning.specs.Basics.{if_then_else_, All}
 use Rattle.meaning.specs.Facts.{Kind, Fact, Board, arityOf, mostCards, mostNotices}
 use Rattle.meaning.specs.WellFormed.{GoodKind}
 use Rattle.files.specs.Marks.{CA, NO, isMark}
-use Rattle.files.specs.InPlace.{Read, byteAt, twoAt, manyAt, prepend, recordsAt, factAt, boardAt}
-use Rattle.rows.specs.Held.{rowCount, noticesFrom, Sized, factIn, rowsFrom, factsFrom, boardOf, kindsWith, numbersWith}
-use Rattle.rows.specs.HeldLaws.{rowOf, sized-with, rows-written, below-written, facts-of-rows, Fitting, facts-back, arity-few}
+use Rattle.files.specs.InPlace.{byteAt, twoAt, manyAt, prepend, recordsAt, factAt, boardAt}
+use Rattle.rows.specs.Held.{rowCount, noticesFrom, Sized, factIn, factsFrom, boardOf, kindsWith, numbersWith}
+use Rattle.rows.specs.HeldLaws.{sized-with, rows-written, below-written, facts-of-rows, Fitting, facts-back, arity-few}
 use Rattle.rows.specs.Loads.{countOf, loadedKinds, loadedNumbers, classAt}
 
 -- ---- the facts that a file is read as

@@ -1,6 +1,6 @@
 -- What `settle` leaves is document 01's board after the firing: FULL exactly if that board has no room, else the arrays hold it.
 use Prim.Native.Nat.{ℕ, zero, suc, _+_, _≤_, _<_}
-use native.Mathlib.Nat.{add-zero, add-assoc}
+use native.Mathlib.Nat.{add-zero}
 use native.Mathlib.Omega.{arith}
 use mathlib.Core.Path.{_≡_, refl, sym, ap, ap₂, _∙_}
 use mathlib.Core.Bool.{Bool, true, false, _&&_}
@@ -15,9 +15,9 @@ use Rattle.meaning.specs.Firing.{Work, unusedRows, ofClass, boardAfter, hasRoom
 use Rattle.rows.specs.declared.Count.{Count}
 use Rattle.rows.specs.declared.Settled.{Settled}
 use Rattle.rows.specs.declared.Settled.the-variants.{Full, Fired}
-use Rattle.rows.specs.Held.{rowCount, noticesFrom, Sized, fourFrom, factIn, factOf, rowAt, rowsFrom, factsFrom, boardOf, kindsWith, numbersWith}
+use Rattle.rows.specs.Held.{noticesFrom, Sized, factIn, factOf, rowAt, rowsFrom, factsFrom, boardOf, kindsWith, numbersWith}
 use Rattle.rows.specs.HeldLaws.{rowOf, sized-with, rows-length, rows-written, past-written, facts-of-rows, facts-length}
-use Rattle.rows.specs.Settles.{usedIn, keptCards, newCards, roomFor, settledAs, kindsAfter, numbersAfter, BoardSettled}
+use Rattle.rows.specs.Settles.{usedIn, keptCards, newCards, roomFor, BoardSettled}
 
 -- ---- rows that stay
 

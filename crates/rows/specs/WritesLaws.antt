@@ -1,9 +1,9 @@
 -- A board's bytes: at most 4,226, so that they fit where `write` writes them, and what `write` leaves is the board's encoding and then the old bytes.
-use Prim.Native.Nat.{ℕ, zero, suc, _+_, _*_, min, _≤_}
+use Prim.Native.Nat.{ℕ, zero, suc, _*_, _≤_}
 use native.Mathlib.Omega.{arith}
-use mathlib.Core.Path.{_≡_, refl, sym, ap, _∙_}
+use mathlib.Core.Path.{_≡_, refl}
 use mathlib.Core.List.{List, [], _∷_, _++_}
-use lib.ListN.{length, take, drop, length-append, length-take}
+use lib.ListN.{length, length-append, length-take}
 use borrow.Author.Tests.{le-leb}
 use Rattle.meaning.specs.Basics.{All}
 use Rattle.meaning.specs.Facts.{Kind, Fact, Board, arityOf, mostNumbers, mostCards, mostNotices, longestBoard}
