@@ -1,3 +1,3 @@
-pub mod LoadLaws
-pub mod SettleLaws
-pub mod WriteLaws
+pub mod Loading
+pub mod Settling
+pub mod Writing
