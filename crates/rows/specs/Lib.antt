@@ -1,0 +1,9 @@
+pub mod Held
+pub mod HeldLaws
+pub mod Loads
+pub mod LoadsLaws
+pub mod Settles
+pub mod SettlesLaws
+pub mod Writes
+pub mod WritesLaws
+pub mod Examples
