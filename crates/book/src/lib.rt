@@ -39,7 +39,7 @@ pub struct Book {
 }
 
 impl Book {
-    pub const KINDS: usize = 32;
+    pub const KINDS: usize = Kinds::MOST;
 
     pub const RULES: usize = 32;
 
@@ -54,7 +54,7 @@ impl Book {
     // every variable
     const ALL: Variables = 0xfff;
 
-    pub const NUMBERS: usize = 4;
+    pub const NUMBERS: usize = Kinds::NUMBERS;
 
     pub const LONGEST: usize = 17794;
 

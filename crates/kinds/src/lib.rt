@@ -14,6 +14,9 @@ pub struct Kinds {
 impl Kinds {
     pub const MOST: usize = 32;
 
+    // the most numbers that a fact has
+    pub const NUMBERS: usize = 4;
+
     pub fn none() -> Kinds
         ensures { λ r. ⌜ r ≡ noKinds ⌝ }
     {

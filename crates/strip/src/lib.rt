@@ -7,6 +7,7 @@ ghost use Rattle.files.specs.Judge.{told};
 ghost use Rattle.files.specs.Strip.{fieldsAt, isTerm, wordIsGood, mayBeLast, earlierThanNext, judgeStrip};
 ghost use Rattle.strip.specs.Told.{stripTold, fieldsOf, earlierOf};
 ghost use Rattle.strip.specs.Leading.{leadingKinds};
+use book::Book;
 use fields::byte_at;
 use fields::two_at;
 use kinds::Kinds;
@@ -21,12 +22,7 @@ impl Strip {
 
     pub const CURSORS: usize = 14;
 
-    pub const REGISTERS: usize = 12;
-
-    // A fact's numbers, and a book's rules.
-    pub const NUMBERS: usize = 4;
-
-    pub const RULES: usize = 32;
+    pub const REGISTERS: usize = Book::VARIABLES;
 }
 
 // What a file is judged to be: a strip, or refused at a word.
@@ -83,7 +79,7 @@ fn word_is_good(word: Word, size: usize, before: Earlier) -> bool
     let c = word.c as usize;
     let value = word.value as usize;
     let cursor = a < Strip::CURSORS;
-    let argument = b < Strip::NUMBERS;
+    let argument = b < Kinds::NUMBERS;
     let register = c < Strip::REGISTERS;
     let target = (word.target as usize) < size;
     let room = before.kinds < Kinds::MOST;
@@ -93,7 +89,7 @@ fn word_is_good(word: Word, size: usize, before: Earlier) -> bool
     let no_value = value == 0;
     let no_target = word.target == 0;
     match code {
-        0 => (a <= 1) & (b <= Strip::NUMBERS) & no_c & no_value & no_target & room & !before.others,
+        0 => (a <= 1) & (b <= Kinds::NUMBERS) & no_c & no_value & no_target & room & !before.others,
         1 => cursor & no_b & no_c & no_value & no_target,
         2 => cursor & (b < before.kinds) & no_c & no_value & target,
         3 => cursor & argument & register & no_value & no_target,
@@ -102,9 +98,9 @@ fn word_is_good(word: Word, size: usize, before: Earlier) -> bool
         6 => (a <= 15) & is_term(a / 2 % 2, b + 256 * c) & is_term(a % 2, value) & target,
         7 => no_a & no_b & no_c & no_value & no_target,
         8 => (a < before.kinds) & no_b & no_c & no_value & no_target,
-        9 => (a < Strip::NUMBERS) & is_term(b, value) & no_c & no_target,
+        9 => (a < Kinds::NUMBERS) & is_term(b, value) & no_c & no_target,
         10 => no_a & no_b & no_c & no_value & target,
-        11 => (a < Strip::RULES) & no_b & no_c & no_value & no_target,
+        11 => (a < Book::RULES) & no_b & no_c & no_value & no_target,
         12 => no_a & no_b & no_c & no_value & no_target,
         13..=255 => false,
     }
