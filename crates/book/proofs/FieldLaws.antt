@@ -71,7 +71,7 @@ module _ (rest : List ℕ) (end at free : ℕ) where
   module _ (h : 1 ≤ length rest) where
     pub term-bad-tag : 1 < getD rest 0 0 → TermReads rest end at free (T.Told (C.Field at))
     term-bad-tag t =
-        record { reads = λ bound b next. ends end (byte-at end rest _ 0 h ∙ demand-false (leb (getD rest 0 0) 1) FIELD at _ (lt-leb (getD rest 0 0) 1 t)) }
+        record { reads = λ bound b next. ends end (byte-at end rest _ 0 h ∙ demand-false _ FIELD at _ (lt-leb _ _ t)) }
 
     module _ (t : getD rest 0 0 ≤ 1) where
       -- as far as the value
@@ -81,7 +81,7 @@ module _ (rest : List ℕ) (end at free : ℕ) where
           (λ v l.
           if eqb (getD rest 0 0) 0 then next (constant v) l
           else demand (ltb v variables) FIELD at (demand (bound v) LOOSE at (next (variable v) l)))
-      to-value bound next = byte-at end rest _ 0 h ∙ demand-true (leb (getD rest 0 0) 1) FIELD at _ (le-leb (getD rest 0 0) 1 t)
+      to-value bound next = byte-at end rest _ 0 h ∙ demand-true _ FIELD at _ (le-leb _ _ t)
 
       pub term-no-value : length rest < 3 → TermReads rest end at free (T.Told (C.Cut end))
       term-no-value l = record { reads = λ bound b next. ends end (to-value bound next ∙ two-cut end rest _ 1 (omega arith)) }
@@ -106,12 +106,12 @@ module _ (rest : List ℕ) (end at free : ℕ) where
 
           pub term-no-variable : variables ≤ v → TermReads rest end at free (T.Told (C.Field at))
           term-no-variable m =
-              record { reads = λ bound b next. ends end (to-variable bound next ∙ demand-false (ltb v variables) FIELD at _ (le-ltb v variables m)) }
+              record { reads = λ bound b next. ends end (to-variable bound next ∙ demand-false _ FIELD at _ (le-ltb _ _ m)) }
 
           module _ (m : v < variables) (may : Bool) (x : may ≡ isIn free v) where
             to-bound : (bound : ℕ → Bool) (next : Term → List ℕ → Judged Reading)
                 → term end bound at rest next ≡ demand (bound v) LOOSE at (next (variable v) (drop 3 rest))
-            to-bound bound next = to-variable bound next ∙ demand-true (ltb v variables) FIELD at _ (lt-ltb v variables m)
+            to-bound bound next = to-variable bound next ∙ demand-true _ FIELD at _ (lt-ltb _ _ m)
 
             pub term-variable : may ≡ true → TermReads rest end at free (T.Bytes 3)
             term-variable f = record {
@@ -120,12 +120,12 @@ module _ (rest : List ℕ) (end at free : ℕ) where
                 some = omega arith;
                 within = l;
                 is = rw (ne-eqb (getD rest 0 0) 0 e, ← q);
-                goes = λ next. to-bound bound next ∙ demand-true (bound v) LOOSE at _ (sym (b v m) ∙ sym x ∙ f);
+                goes = λ next. to-bound bound next ∙ demand-true _ LOOSE at _ (sym (b v m) ∙ sym x ∙ f);
               };
             }
 
             pub term-loose : may ≡ false → TermReads rest end at free (T.Told (C.Loose at))
-            term-loose f = record { reads = λ bound b next. ends end (to-bound bound next ∙ demand-false (bound v) LOOSE at _ (sym (b v m) ∙ sym x ∙ f)) }
+            term-loose f = record { reads = λ bound b next. ends end (to-bound bound next ∙ demand-false _ LOOSE at _ (sym (b v m) ∙ sym x ∙ f)) }
 
 -- ---- the variables with that of a term
 
@@ -319,13 +319,13 @@ module _ (rest : List ℕ) (end at : ℕ) where
   module _ (h : 3 ≤ length rest) where
     pub kind-bad-class : 1 < getD rest 2 0 → KindReads rest end at (T.Told (C.Field at))
     kind-bad-class c =
-        record { reads = λ next. ends end (byte-at end rest _ 2 h ∙ demand-false (leb (getD rest 2 0) 1) FIELD at _ (lt-leb (getD rest 2 0) 1 c)) }
+        record { reads = λ next. ends end (byte-at end rest _ 2 h ∙ demand-false _ FIELD at _ (lt-leb _ _ c)) }
 
     module _ (c : getD rest 2 0 ≤ 1) where
       to-arity : (next : (ℕ × ℕ) → List ℕ → Judged Reading)
           → kindFields (drop 2 rest) end at next
           ≡ byte end (drop 3 rest) (λ arity l. demand (leb arity mostNumbers) FIELD at (next (getD rest 2 0, arity) l))
-      to-arity next = byte-at end rest _ 2 h ∙ demand-true (leb (getD rest 2 0) 1) FIELD at _ (le-leb (getD rest 2 0) 1 c)
+      to-arity next = byte-at end rest _ 2 h ∙ demand-true _ FIELD at _ (le-leb _ _ c)
 
       pub kind-no-arity : length rest < 4 → KindReads rest end at (T.Told (C.Cut end))
       kind-no-arity l = record { reads = λ next. ends end (to-arity next ∙ byte-cut end rest _ 3 (omega arith)) }
@@ -361,13 +361,13 @@ module _ (rest : List ℕ) (end at free : ℕ) where
   module _ (h : 3 ≤ length rest) where
     pub test-unknown : 3 < getD rest 2 0 → TestReads rest end at free (T.Told (C.Field at))
     test-unknown u = record {
-      reads = λ bound b next. ends end (byte-at end rest _ 2 h ∙ demand-false (leb (getD rest 2 0) 3) FIELD at _ (lt-leb (getD rest 2 0) 3 u));
+      reads = λ bound b next. ends end (byte-at end rest _ 2 h ∙ demand-false _ FIELD at _ (lt-leb _ _ u));
     }
 
     pub test-terms : getD rest 2 0 ≤ 3 → (known : ℕ) (r : Scan) → TermsRead rest end at 2 free known r → TestReads rest end at free (r .took)
     test-terms u known r y = record {
       reads = λ bound b.
           reads-as rest end (terms end bound at 2 (drop 3 rest)) (testFields (drop 2 rest) end at bound) _ _ (λ ts. (getD rest 2 0, ts))
-          (λ next. byte-at end rest _ 2 h ∙ demand-true (leb (getD rest 2 0) 3) FIELD at _ (le-leb (getD rest 2 0) 3 u))
+          (λ next. byte-at end rest _ 2 h ∙ demand-true _ FIELD at _ (le-leb _ _ u))
           (λ ts k. tt) (r .took) (y .reads bound b);
     }

@@ -123,13 +123,13 @@ module _ (book : Book) (rest : List ℕ) (end : ℕ) where
     module _ (may : Bool) (y : MayStand book mark may) where
       pub record-place : not may ≡ true → RecordReads book rest end (record { took = T.Told (C.Place at); book = book })
       record-place e =
-          record { reads = λ r i. ends end (to-place r ∙ demand-false (mayStandHere (markIs mark) (r .now)) PLACE at _ (sym (y .says r i) ∙ not-true may e)) }
+          record { reads = λ r i. ends end (to-place r ∙ demand-false _ PLACE at _ (sym (y .says r i) ∙ not-true may e)) }
 
       module _ (e : not may ≡ false) (lack : Lack) (z : Lacks book mark lack) where
         to-fields : (known : Lack) → lack ≡ known → (r : Reading) → Holds book r
             → bookRecord end r rest ≡ lackTold known at (fields end (markIs mark) at r (drop 2 rest))
         to-fields known k r i =
-            to-place r ∙ demand-true (mayStandHere (markIs mark) (r .now)) PLACE at _ (sym (y .says r i) ∙ not-false may e) ∙ z .says r i end at (drop 2 rest)
+            to-place r ∙ demand-true _ PLACE at _ (sym (y .says r i) ∙ not-false may e) ∙ z .says r i end at (drop 2 rest)
             ∙ ap (λ (x : Lack). lackTold x at (fields end (markIs mark) at r (drop 2 rest))) k
 
         pub record-nocard : lack ≡ L.Card → RecordReads book rest end (record { took = T.Told (C.Nocard at); book = book })

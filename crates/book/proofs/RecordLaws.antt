@@ -15,7 +15,7 @@ use Rattle.files.specs.Numbers.{MANY, TRAIL}
 use Rattle.files.specs.Judge.{Judged, go, told, atEnd}
 use Rattle.files.specs.Board.{isOfClass}
 use Rattle.files.specs.InPlace.{comparisonOf}
-use Rattle.files.specs.Book.{Open, noRule, inRule, inSweep, Reading, emptyRule, emptySweep, groups, withGroups, rulesClosed, sweepOpened, sweepsSoFar, isInRule, mayStandHere, hasCard, mostInGroup, isBound, fields, atom}
+use Rattle.files.specs.Book.{Open, noRule, inRule, inSweep, Reading, emptyRule, emptySweep, groups, withGroups, rulesClosed, sweepOpened, sweepsSoFar, isInRule, mayStandHere, hasCard, isBound, fields, atom}
 use Rattle.files.specs.Book as B
 use Rattle.kinds.specs.declared.Kinds.{Kinds}
 use Rattle.kinds.specs.Listed.{kindsOf, withKind}
@@ -30,7 +30,7 @@ use Rattle.book.specs.declared.Took.the-variants as T
 use Rattle.book.specs.declared.Scan.{Scan}
 use Rattle.book.proofs.SetLaws.{in-none, in-all}
 use Rattle.book.proofs.FieldLaws.{demand-true, demand-false, ends, count-is}
-use Rattle.book.proofs.StateLaws.{apart, needs-rule}
+use Rattle.book.proofs.StateLaws.{apart, needs-rule, full, roomy}
 
 -- what fields hold is read
 led-by : {A : Type 0} (rest : List ℕ) (end : ℕ) (from : Fields A) (P : A → Type 0) (judged : Judged Reading) (book : Book) (make : A → Reading)
@@ -380,10 +380,7 @@ module _ (book : Book) (rest : List ℕ) (end at most : ℕ) (q : Most book most
   pub te-many : most ≤ book .tests → FieldsRead B.te book rest end at (record { took = T.Told (C.Many at); book = book })
   te-many h = record {
     reads = λ l r i p.
-        let e = q .says r i (needs-rule B.te refl (r .now) p) in
-        ends end
-        (demand-false (ltb (length (groups (r .now) .tests)) (mostInGroup (r .now))) MANY at _
-        (le-ltb (length (groups (r .now) .tests)) (mostInGroup (r .now)) (omega (arith, i .tests))));
+        ends end (demand-false _ MANY at _ (full book most q r i (needs-rule B.te refl (r .now) p) _ (book .tests) (i .tests) h));
   }
 
   pub te-takes : book .tests < most → (took : Took) → TestReads rest end at (book .bound) took
@@ -391,14 +388,13 @@ module _ (book : Book) (rest : List ℕ) (end at most : ℕ) (q : Most book most
       (record { took = took; book = regrouped book (book .body) (book .tests + 1) (book .heads) (book .carded) (book .own) (book .bound) })
   te-takes h took y = record {
     reads = λ l r i p.
-        let e = q .says r i (needs-rule B.te refl (r .now) p) in
+        let w = needs-rule B.te refl (r .now) p in
         led-by rest end (testFields (drop 2 rest) end at (isBound (r .now))) _ (fields end B.te at r (drop 2 rest)) _
         (λ x.
         record { kinds = r .kinds; rules = r .rules; now = withGroups (r .now) (later (groups (r .now) .tests ++ (test x ∷ [])) (groups (r .now) .heads) (r .now)) })
-        (demand-true (ltb (length (groups (r .now) .tests)) (mostInGroup (r .now))) MANY at _
-        (lt-ltb (length (groups (r .now) .tests)) (mostInGroup (r .now)) (omega (arith, i .tests))))
+        (demand-true _ MANY at _ (roomy book most q r i w _ (book .tests) (i .tests) h))
         (λ x k.
-        later-holds (groups (r .now) .tests ++ (test x ∷ [])) (groups (r .now) .heads) book r i (needs-rule B.te refl (r .now) p) (book .tests + 1) (book .heads)
+        later-holds (groups (r .now) .tests ++ (test x ∷ [])) (groups (r .now) .heads) book r i w (book .tests + 1) (book .heads)
         (snoc-length (groups (r .now) .tests) (test x) (book .tests) (i .tests)) (i .heads))
         took (y .reads (isBound (r .now)) (i .bound));
   }
@@ -411,10 +407,7 @@ module _ (book : Book) (rest : List ℕ) (end at most : ℕ) (q : Most book most
   pub he-many : most ≤ book .heads → FieldsRead B.he book rest end at (record { took = T.Told (C.Many at); book = book })
   he-many h = record {
     reads = λ l r i p.
-        let e = q .says r i (needs-rule B.he refl (r .now) p) in
-        ends end
-        (demand-false (ltb (length (groups (r .now) .heads)) (mostInGroup (r .now))) MANY at _
-        (le-ltb (length (groups (r .now) .heads)) (mostInGroup (r .now)) (omega (arith, i .heads))));
+        ends end (demand-false _ MANY at _ (full book most q r i (needs-rule B.he refl (r .now) p) _ (book .heads) (i .heads) h));
   }
 
   pub he-takes : book .heads < most → (scan : Scan) → AtomReads (book .kinds) rest end at (book .bound) (book .bound) scan
@@ -422,14 +415,13 @@ module _ (book : Book) (rest : List ℕ) (end at most : ℕ) (q : Most book most
       (record { took = scan .took; book = regrouped book (book .body) (book .tests) (book .heads + 1) (book .carded) (book .own) (book .bound) })
   he-takes h scan y = record {
     reads = λ l r i p.
-        let e = q .says r i (needs-rule B.he refl (r .now) p) in
+        let w = needs-rule B.he refl (r .now) p in
         led-by rest end (atom end (r .kinds) (isBound (r .now)) at (drop 2 rest)) _ (fields end B.he at r (drop 2 rest)) _
         (λ a.
         record { kinds = r .kinds; rules = r .rules; now = withGroups (r .now) (later (groups (r .now) .tests) (groups (r .now) .heads ++ (a ∷ [])) (r .now)) })
-        (demand-true (ltb (length (groups (r .now) .heads)) (mostInGroup (r .now))) MANY at _
-        (lt-ltb (length (groups (r .now) .heads)) (mostInGroup (r .now)) (omega (arith, i .heads))))
+        (demand-true _ MANY at _ (roomy book most q r i w _ (book .heads) (i .heads) h))
         (λ a k.
-        later-holds (groups (r .now) .tests) (groups (r .now) .heads ++ (a ∷ [])) book r i (needs-rule B.he refl (r .now) p) (book .tests) (book .heads + 1)
+        later-holds (groups (r .now) .tests) (groups (r .now) .heads ++ (a ∷ [])) book r i w (book .tests) (book .heads + 1)
         (i .tests) (snoc-length (groups (r .now) .heads) a (book .heads) (i .heads)))
         (scan .took) (atom-reads book rest end at (book .bound) (book .bound) scan y r i (isBound (r .now)) (i .bound));
   }
@@ -439,10 +431,7 @@ module _ (book : Book) (rest : List ℕ) (end at most : ℕ) (q : Most book most
   pub ba-many : most ≤ book .body → FieldsRead B.ba book rest end at (record { took = T.Told (C.Many at); book = book })
   ba-many h = record {
     reads = λ l r i p.
-        let e = q .says r i (needs-rule B.ba refl (r .now) p) in
-        ends end
-        (demand-false (ltb (length (groups (r .now) .body)) (mostInGroup (r .now))) MANY at _
-        (le-ltb (length (groups (r .now) .body)) (mostInGroup (r .now)) (omega (arith, i .body))));
+        ends end (demand-false _ MANY at _ (full book most q r i (needs-rule B.ba refl (r .now) p) _ (book .body) (i .body) h));
   }
 
   module _ (h : book .body < most) (scan : Scan) (y : AtomReads (book .kinds) rest end at allVariables (book .bound) scan) where
@@ -458,11 +447,9 @@ module _ (book : Book) (rest : List ℕ) (end at most : ℕ) (q : Most book most
     ba-reads carded own f = record {
       reads = λ l r i p.
           let w = needs-rule B.ba refl (r .now) p in
-          let e = q .says r i w in
           led-by rest end (atom end (r .kinds) anyVariable at (drop 2 rest)) _ (fields end B.ba at r (drop 2 rest)) _
           (λ a. record { kinds = r .kinds; rules = r .rules; now = withGroups (r .now) (grown a (r .now)) })
-          (demand-true (ltb (length (groups (r .now) .body)) (mostInGroup (r .now))) MANY at _
-          (lt-ltb (length (groups (r .now) .body)) (mostInGroup (r .now)) (omega (arith, i .body))))
+          (demand-true _ MANY at _ (roomy book most q r i w _ (book .body) (i .body) h))
           (λ a k.
           let known : Marked (scan .known) (λ v. isBound (r .now) v || occursInTerms v (a .terms)) =
           λ v u. k .1 v u ∙ ap (λ (x : Bool). x || occursInTerms v (a .terms)) (i .bound v u) in

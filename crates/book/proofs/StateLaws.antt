@@ -1,5 +1,5 @@
 -- What the state says of a record before its fields: PLACE, NOCARD and BARE, and the most that a group may have.
-use Prim.Native.Nat.{ℕ, suc}
+use Prim.Native.Nat.{ℕ, suc, _≤_, _<_}
 use mathlib.Core.Path.{_≡_, refl, sym, ap, _∙_}
 use mathlib.Core.Bool.{Bool, true, false, _&&_}
 use mathlib.Core.List.{List, [], _∷_}
@@ -178,3 +178,11 @@ module _ (book : Book) where
       by noRule s e = apart e
       by (inRule rule) s e = absurd (h (s .1))
       by (inSweep rule sweep) s e = refl
+
+-- a group against the most that it may have
+module _ (book : Book) (most : ℕ) (q : Most book most) (r : Reading) (i : Holds book r) (w : isInRule (r .now) ≡ true) (n count : ℕ) (e : n ≡ count) where
+  pub full : most ≤ count → ltb n (mostInGroup (r .now)) ≡ false
+  full h = let m = q .says r i w in le-ltb n (mostInGroup (r .now)) (omega arith)
+
+  pub roomy : count < most → ltb n (mostInGroup (r .now)) ≡ true
+  roomy h = let m = q .says r i w in lt-ltb n (mostInGroup (r .now)) (omega arith)

@@ -68,6 +68,7 @@ pub record Holds (book : Book) (r : Reading) : Type 0 where
 
 -- ---- a record
 
+-- the mark in the terms of `files`
 abbrev pub markIs : D.Mark → Mark
 markIs M.Kd = B.kd
 markIs M.Ru = B.ru
@@ -78,6 +79,7 @@ markIs M.Sw = B.sw
 markIs M.En = B.en
 markIs M.Other = B.other
 
+-- PLACE
 pub record MayStand (book : Book) (mark : D.Mark) (answer : Bool) : Type 0 where
   pub says : (r : Reading) → Holds book r → answer ≡ mayStandHere (markIs mark) (r .now)
 
@@ -92,15 +94,18 @@ inBody B.sw = false
 inBody B.en = false
 inBody B.other = true
 
+-- what a lack tells
 abbrev pub lackTold : Lack → ℕ → Judged Reading → Judged Reading
 lackTold L.Nothing at next = next
 lackTold L.Card at next = stop NOCARD at
 lackTold L.Atom at next = stop BARE at
 
+-- NOCARD and BARE
 pub record Lacks (book : Book) (mark : D.Mark) (lack : Lack) : Type 0 where
   pub says : (r : Reading) → Holds book r → (end at : ℕ) (rest : List ℕ)
       → afterPlace end (markIs mark) at r rest ≡ lackTold lack at (fields end (markIs mark) at r rest)
 
+-- the most that a group of what is open may have
 pub record Most (book : Book) (most : ℕ) : Type 0 where
   pub says : (r : Reading) → Holds book r → isInRule (r .now) ≡ true → most ≡ mostInGroup (r .now)
 
@@ -112,6 +117,7 @@ pub record Went (rest : List ℕ) (judged : Judged Reading) (book : Book) (m : �
   pub goes : judged ≡ go reading (drop m rest)
   pub holds : Holds book reading
 
+-- what an answer on a record says: the state after it holds what is read, or the reading ends
 abbrev pub Led : List ℕ → ℕ → Judged Reading → Book → Took → Type 0
 Led rest end judged book (T.Bytes m) = Went rest judged book m
 Led rest end judged book (T.Told checked) = Ends end judged checked

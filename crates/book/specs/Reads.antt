@@ -36,6 +36,7 @@ pub record Found {A : Type 0} (rest : List ℕ) (fields : Fields A) (P : A → T
   pub is : P value
   pub goes : (next : A → List ℕ → Judged Reading) → fields next ≡ next value (drop m rest)
 
+-- what an answer on fields says: they hold a value that is so, or they end the reading
 abbrev pub Reads : {A : Type 0} → List ℕ → ℕ → Fields A → (A → Type 0) → Took → Type 0
 Reads rest end fields P (T.Bytes m) = Found rest fields P m
 Reads rest end fields P (T.Told checked) = (next : _) → Ends end (fields next) checked
@@ -48,15 +49,18 @@ Marked set test = (v : ℕ) → v < variables → isIn set v ≡ test v
 abbrev pub Known : ℕ → List Term → ℕ → Type 0
 Known known ts after = Marked after (λ v. isIn known v || occursInTerms v ts)
 
--- ---- the fields; `free` are the variables that may stand there
+-- ---- the fields; `free` are the variables that may stand there, `known` those that stood before
 
+-- one term
 pub record TermReads (rest : List ℕ) (end at free : ℕ) (r : Took) : Type 0 where
   pub reads : (bound : ℕ → Bool) → Marked free bound → Reads rest end (term end bound at rest) (λ t. t ≡ termAt rest 0) r
 
+-- so many terms, from the record's byte 3 on
 pub record TermsRead (rest : List ℕ) (end at count free known : ℕ) (r : Scan) : Type 0 where
   pub reads : (bound : ℕ → Bool) → Marked free bound
       → Reads rest end (terms end bound at count (drop 3 rest)) (λ ts. Known known ts (r .known)) (r .took)
 
+-- a record's kind and its terms
 pub record AtomReads (kinds : Kinds) (rest : List ℕ) (end at free known : ℕ) (r : Scan) : Type 0 where
   pub reads : kinds .count ≤ mostKinds → (bound : ℕ → Bool) → Marked free bound
       → Reads rest end (atom end (kindsOf kinds) bound at (drop 2 rest)) (λ a. (a .kind ≡ getD rest 2 0) × Known known (a .terms) (r .known)) (r .took)
@@ -70,7 +74,7 @@ kindFields rest end at next =
 pub record KindReads (rest : List ℕ) (end at : ℕ) (r : Took) : Type 0 where
   pub reads : Reads rest end (kindFields (drop 2 rest) end at) (λ k. k ≡ (getD rest 2 0, getD rest 3 0)) r
 
--- test number and two terms
+-- test number and two terms, as `fields` judges them
 abbrev pub testFields : List ℕ → ℕ → ℕ → (ℕ → Bool) → Fields (ℕ × List Term)
 testFields rest end at bound next =
     byte end rest λ number rest₁. demand (leb number 3) FIELD at (terms end bound at 2 rest₁ λ ts rest₂. next (number, ts) rest₂)

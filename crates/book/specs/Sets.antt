@@ -4,9 +4,11 @@ use mathlib.Core.Bool.{Bool}
 use lib.Bits.{bitOr}
 use lib.Dec.{eqb}
 
+-- is the variable in the set
 unfoldable pub isIn : ℕ → ℕ → Bool
 isIn set v = eqb (set / 2 ^ v % 2) 1
 
+-- the set with the variable
 unfoldable pub withVariable : ℕ → ℕ → ℕ
 withVariable set v = bitOr set (2 ^ v)
 

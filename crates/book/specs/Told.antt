@@ -1,4 +1,5 @@
--- Document 01's refusal and place for each case of what a check of a book tells.
+-- Document 01's refusal and place for each case of what a check of a book tells. The contract of `check_book` cites this and `files` alone; the
+-- other files here say what the reader's own functions hand to each other.
 use Prim.Native.Nat.{ℕ}
 use mathlib.Core.Option.{Option, none, some}
 use Rattle.files.specs.Numbers.{Refusal, CUT, MARK, PLACE, NOCARD, BARE, MANY, FIELD, LOOSE, TRAIL}

@@ -110,13 +110,13 @@ enum Took {
     Told(BookChecked),
 }
 
-// A field, and the variables that are known after it.
+// A field, and the variables that are known after it. Where something is told, they are of no use.
 struct Scan {
     took: Took,
     known: Variables,
 }
 
-// A record, and the book as far as it is read after it.
+// A record, and the book as far as it is read after it. Where something is told, that book is of no use.
 struct Next {
     took: Took,
     book: Book,
@@ -221,17 +221,14 @@ fn read_terms(
                 i += 1;
             }
             Took::Told(told) => {
-                return Scan {
-                    took: Took::Told(told),
-                    known,
-                };
+                let took = Took::Told(told);
+                return Scan { took, known };
             }
         }
     }
-    Scan {
-        took: Took::Bytes(rest.len() - left.len()),
-        known: now,
-    }
+    let m = rest.len() - left.len();
+    let took = Took::Bytes(m);
+    Scan { took, known: now }
 }
 
 // A record's kind and its terms.
@@ -246,17 +243,13 @@ fn read_atom(
     ensures { λ r. ⌜ AtomReads kinds (now (rest .entry)) end at free known r ⌝ }
 {
     if rest.len() < 3 {
-        return Scan {
-            took: Took::Told(BookChecked::Cut(end)),
-            known,
-        };
+        let cut = Took::Told(BookChecked::Cut(end));
+        return Scan { took: cut, known };
     }
     let kind = byte_at(rest, 2);
     if kinds.count <= kind as usize {
-        return Scan {
-            took: Took::Told(BookChecked::Field(at)),
-            known,
-        };
+        let field = Took::Told(BookChecked::Field(at));
+        return Scan { took: field, known };
     }
     let arity = kinds.arity_of(kind) as usize;
     read_terms(rest, end, at, arity, free, known)
@@ -311,10 +304,8 @@ fn read_kd(book: Book, rest: &[u8], end: usize, at: usize) -> Next
 {
     let kinds = book.kinds;
     if Book::KINDS <= kinds.count {
-        return Next {
-            took: Took::Told(BookChecked::Many(at)),
-            book,
-        };
+        let took = Took::Told(BookChecked::Many(at));
+        return Next { took, book };
     }
     let mut next = book;
     let more = kinds.with(byte_at(rest, 2), byte_at(rest, 3));
@@ -330,15 +321,12 @@ fn read_ru(book: Book, at: usize) -> Next
     let kinds = book.kinds;
     let rules = book.rules;
     if Book::RULES <= rules {
-        return Next {
-            took: Took::Told(BookChecked::Many(at)),
-            book,
-        };
+        let took = Took::Told(BookChecked::Many(at));
+        return Next { took, book };
     }
-    Next {
-        took: Took::Bytes(2),
-        book: Book::with_rules(kinds, rules + 1),
-    }
+    let took = Took::Bytes(2);
+    let next = Book::with_rules(kinds, rules + 1);
+    Next { took, book: next }
 }
 
 // `ba`: one body atom more.
@@ -348,10 +336,8 @@ fn read_ba(book: Book, rest: &[u8], end: usize, at: usize) -> Next
     let kinds = book.kinds;
     let body = book.body;
     if most(book) <= body {
-        return Next {
-            took: Took::Told(BookChecked::Many(at)),
-            book,
-        };
+        let took = Took::Told(BookChecked::Many(at));
+        return Next { took, book };
     }
     let bound = book.bound;
     let scan = read_atom(kinds, rest, end, at, Book::ALL, bound);
@@ -374,10 +360,8 @@ fn read_te(book: Book, rest: &[u8], end: usize, at: usize) -> Next
 {
     let tests = book.tests;
     if most(book) <= tests {
-        return Next {
-            took: Took::Told(BookChecked::Many(at)),
-            book,
-        };
+        let took = Took::Told(BookChecked::Many(at));
+        return Next { took, book };
     }
     let bound = book.bound;
     let took = read_test(rest, end, at, bound);
@@ -393,10 +377,8 @@ fn read_he(book: Book, rest: &[u8], end: usize, at: usize) -> Next
     let kinds = book.kinds;
     let heads = book.heads;
     if most(book) <= heads {
-        return Next {
-            took: Took::Told(BookChecked::Many(at)),
-            book,
-        };
+        let took = Took::Told(BookChecked::Many(at));
+        return Next { took, book };
     }
     let bound = book.bound;
     let scan = read_atom(kinds, rest, end, at, bound, bound);
@@ -412,10 +394,8 @@ fn read_sw(book: Book, at: usize) -> Next
 {
     let sweeps = book.sweeps;
     if Book::SWEEPS <= sweeps {
-        return Next {
-            took: Took::Told(BookChecked::Many(at)),
-            book,
-        };
+        let took = Took::Told(BookChecked::Many(at));
+        return Next { took, book };
     }
     let own = book.own;
     let mut next = book;
@@ -424,10 +404,8 @@ fn read_sw(book: Book, at: usize) -> Next
     next.heads = 0;
     next.sweeps = sweeps + 1;
     next.bound = own;
-    Next {
-        took: Took::Bytes(2),
-        book: next,
-    }
+    let took = Took::Bytes(2);
+    Next { took, book: next }
 }
 
 // `en`: the end, and TRAIL at the first byte after it.
@@ -436,15 +414,12 @@ fn read_en(book: Book, rest: &[u8], end: usize, at: usize) -> Next
     ensures { λ r. ⌜ FieldsRead B.en book (now (rest .entry)) end at r ⌝ }
 {
     if rest.len() == 2 {
-        return Next {
-            took: Took::Told(BookChecked::Accepted),
-            book,
-        };
+        let took = Took::Told(BookChecked::Accepted);
+        return Next { took, book };
     }
-    Next {
-        took: Took::Told(BookChecked::Trail(at + 2)),
-        book,
-    }
+    let place = at + 2;
+    let took = Took::Told(BookChecked::Trail(place));
+    Next { took, book }
 }
 
 // The mark that a record starts with.
@@ -543,10 +518,10 @@ fn read_fields(book: Book, mark: Mark, rest: &[u8], end: usize, at: usize) -> Ne
         Mark::He => read_he(book, rest, end, at),
         Mark::Sw => read_sw(book, at),
         Mark::En => read_en(book, rest, end, at),
-        Mark::Other => Next {
-            took: Took::Told(BookChecked::Mark(at)),
-            book,
-        },
+        Mark::Other => {
+            let took = Took::Told(BookChecked::Mark(at));
+            Next { took, book }
+        }
     }
 }
 
@@ -556,28 +531,24 @@ fn read_record(book: Book, rest: &[u8], end: usize, at: usize) -> Next
     ensures { λ r. ⌜ RecordReads book (now (rest .entry)) end r ⌝ }
 {
     if rest.len() < 2 {
-        return Next {
-            took: Took::Told(BookChecked::Cut(end)),
-            book,
-        };
+        let took = Took::Told(BookChecked::Cut(end));
+        return Next { took, book };
     }
     let mark = mark_of(rest);
     if !may_stand(book, mark) {
-        return Next {
-            took: Took::Told(BookChecked::Place(at)),
-            book,
-        };
+        let took = Took::Told(BookChecked::Place(at));
+        return Next { took, book };
     }
     match lacking(book, mark) {
         Lack::Nothing => read_fields(book, mark, rest, end, at),
-        Lack::Card => Next {
-            took: Took::Told(BookChecked::Nocard(at)),
-            book,
-        },
-        Lack::Atom => Next {
-            took: Took::Told(BookChecked::Bare(at)),
-            book,
-        },
+        Lack::Card => {
+            let took = Took::Told(BookChecked::Nocard(at));
+            Next { took, book }
+        }
+        Lack::Atom => {
+            let took = Took::Told(BookChecked::Bare(at));
+            Next { took, book }
+        }
     }
 }
 

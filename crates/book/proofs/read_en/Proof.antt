@@ -7,11 +7,11 @@ use Rattle.book.proofs.read_en.Tie as tie
 returns : tie.Need-returns
 returns c = search en-accepted
 
-add-t5 : tie.Need-add-t5
-add-t5 c = search needs
+add-place : tie.Need-add-place
+add-place c = search needs
 
 returns-2 : tie.Need-returns-2
 returns-2 c = search en-trail
 
 pub read-en-spec : {M : Type 1} → statement M
-read-en-spec = tie.close (tie.spec returns add-t5 returns-2)
+read-en-spec = tie.close (tie.spec returns add-place returns-2)

@@ -56,8 +56,8 @@ enum-known-told c = search needs
 returns : tie.Need-returns Inv-loop μ-loop
 returns c = search scan-told
 
-sub-t22 : tie.Need-sub-t22 Inv-loop μ-loop
-sub-t22 c = search scan-shorter
+sub-m : tie.Need-sub-m Inv-loop μ-loop
+sub-m c = search scan-shorter
 
 returns-2 : tie.Need-returns-2 Inv-loop μ-loop
 returns-2 c = search scan-done
@@ -83,5 +83,5 @@ read-terms-spec =
     loop-again
     enum-known-told
     returns
-    sub-t22
+    sub-m
     returns-2)
