@@ -1,0 +1,82 @@
+//! Timing several programs in turn: rounds of samples, medians, ratios within a round.
+
+use std::time::{Duration, Instant};
+
+/// How many rounds, and how long a sample of one program is.
+pub struct Pace {
+    rounds: usize,
+    sample: Duration,
+}
+
+impl Pace {
+    /// Half a minute or so in all.
+    pub fn quick() -> Pace {
+        Pace {
+            rounds: 5,
+            sample: Duration::from_micros(1_000),
+        }
+    }
+
+    /// A few minutes in all.
+    pub fn full() -> Pace {
+        Pace {
+            rounds: 21,
+            sample: Duration::from_micros(4_000),
+        }
+    }
+}
+
+/// What was measured of a program: ns a call, and its ratio to program 0 in the same round.
+pub struct Times {
+    pub median: f64,
+    pub ratio: f64,
+}
+
+/// Times the programs in turn; the round starts with another one each time.
+pub fn time(pace: &Pace, programs: usize, mut call: impl FnMut(usize)) -> Vec<Times> {
+    let calls: Vec<u32> = (0..programs)
+        .map(|program| calls_in_sample(pace, program, &mut call))
+        .collect();
+    let mut samples = vec![vec![0.0; pace.rounds]; programs];
+    for round in 0..pace.rounds {
+        for turn in 0..programs {
+            let program = (round + turn) % programs;
+            samples[program][round] = sample(program, calls[program], &mut call);
+        }
+    }
+    let times = samples.iter().map(|own| {
+        let ratios = own.iter().zip(&samples[0]).map(|(own, first)| own / first);
+        Times {
+            median: median(own.clone()),
+            ratio: median(ratios.collect()),
+        }
+    });
+    times.collect()
+}
+
+/// How many calls fill a sample; at least one.
+fn calls_in_sample(pace: &Pace, program: usize, call: &mut impl FnMut(usize)) -> u32 {
+    let mut calls = 1;
+    loop {
+        let ns = sample(program, calls, call);
+        if ns * f64::from(calls) * 4.0 > pace.sample.as_nanos() as f64 {
+            return ((pace.sample.as_nanos() as f64 / ns) as u32).max(1);
+        }
+        calls *= 2;
+    }
+}
+
+/// ns a call over so many calls.
+fn sample(program: usize, calls: u32, call: &mut impl FnMut(usize)) -> f64 {
+    let start = Instant::now();
+    for _ in 0..calls {
+        call(program);
+    }
+    start.elapsed().as_nanos() as f64 / f64::from(calls)
+}
+
+/// The middle one of some numbers.
+fn median(mut numbers: Vec<f64>) -> f64 {
+    numbers.sort_by(f64::total_cmp);
+    numbers[numbers.len() / 2]
+}
