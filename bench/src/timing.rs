@@ -1,6 +1,6 @@
 //! Timing several programs in turn: rounds of samples, medians, ratios within a round.
 
-use std::time::{Duration, Instant};
+use std::time::Duration;
 
 /// How many rounds, and how long a sample of one program is.
 pub struct Pace {
@@ -59,6 +59,7 @@ fn calls_in_sample(pace: &Pace, program: usize, call: &mut impl FnMut(usize)) ->
     let mut calls = 1;
     loop {
         let ns = sample(program, calls, call);
+        let ns = ns.max(1.0);
         if ns * f64::from(calls) * 4.0 > pace.sample.as_nanos() as f64 {
             return ((pace.sample.as_nanos() as f64 / ns) as u32).max(1);
         }
@@ -68,15 +69,27 @@ fn calls_in_sample(pace: &Pace, program: usize, call: &mut impl FnMut(usize)) ->
 
 /// ns a call over so many calls.
 fn sample(program: usize, calls: u32, call: &mut impl FnMut(usize)) -> f64 {
-    let start = Instant::now();
+    let start = processor_time();
     for _ in 0..calls {
         call(program);
     }
-    start.elapsed().as_nanos() as f64 / f64::from(calls)
+    (processor_time() - start) as f64 / f64::from(calls)
 }
 
 /// The middle one of some numbers.
 fn median(mut numbers: Vec<f64>) -> f64 {
     numbers.sort_by(f64::total_cmp);
     numbers[numbers.len() / 2]
+}
+
+/// ns that this thread has had of a processor: what other work takes meanwhile doesn't count.
+fn processor_time() -> i64 {
+    extern "C" {
+        fn clock_gettime(clock: i32, time: *mut [i64; 2]) -> i32;
+    }
+    const THREAD_PROCESSOR_TIME: i32 = 3;
+    let mut time = [0; 2];
+    let failed = unsafe { clock_gettime(THREAD_PROCESSOR_TIME, &mut time) };
+    assert_eq!(failed, 0, "Linux on a 64-bit processor has this clock");
+    time[0] * 1_000_000_000 + time[1]
 }

@@ -4,7 +4,7 @@ use super::refusal::*;
 use super::sizes::*;
 
 /// What a kind byte holds where there is no row.
-const NO_KIND: u8 = 63;
+pub const NO_KIND: u8 = 63;
 
 /// The kinds of a book or strip. Arities past the last kind are 0.
 #[derive(Clone)]
@@ -224,16 +224,21 @@ impl Board {
         }
     }
 
-    /// The first row of the kind from that row on, or the end. Eight kinds are looked at at once.
+    /// Of the eight rows from there on those of the kind: the highest bit of each one's byte.
+    #[inline(always)]
+    pub fn equal_kinds(&self, kind: u8, from: usize) -> u64 {
+        const LOW: u64 = 0x0101_0101_0101_0101;
+        const SEVEN: u64 = 0x7F7F_7F7F_7F7F_7F7F;
+        let eight = self.kinds[from..from + 8].try_into().unwrap();
+        let differing = u64::from_le_bytes(eight) ^ (LOW * u64::from(kind));
+        !(((differing & SEVEN) + SEVEN) | differing | SEVEN)
+    }
+
+    /// The first row of the kind from that row on, or the end.
     #[inline(always)]
     pub fn next_of_kind(&self, kind: u8, mut from: usize, end: usize) -> usize {
-        const LOW: u64 = 0x0101_0101_0101_0101;
-        const HIGH: u64 = 0x8080_8080_8080_8080;
-        let wanted = LOW * u64::from(kind);
         while from < end {
-            let eight = self.kinds[from..from + 8].try_into().unwrap();
-            let differing = u64::from_le_bytes(eight) ^ wanted;
-            let equal = differing.wrapping_sub(LOW) & !differing & HIGH;
+            let equal = self.equal_kinds(kind, from);
             if equal != 0 {
                 return (from + (equal.trailing_zeros() / 8) as usize).min(end);
             }

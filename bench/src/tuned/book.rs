@@ -254,8 +254,10 @@ fn refuse_terms<T>(bytes: &[u8], record: usize, allowed: u16) -> Result<T, Refus
 
 // ---------------------------------------------------------------- flat structs
 
-/// Values of the variables, and after them room that nobody reads.
-pub type Values = [u16; 16];
+/// Values of the variables from 0, room that nobody reads, and from 16 the constants of the tests
+/// of the part at hand, so that a test compares two places.
+pub type Values = [u16; 32];
+const FIRST_CONSTANT: usize = 16;
 /// The place in the values for an argument that binds no variable.
 const NOWHERE: u8 = 15;
 
@@ -266,8 +268,9 @@ pub struct Atom {
     /// How many pairs of arguments have one variable that first occurs here.
     pairs: u8,
     pair: [(u8, u8); 3],
-    /// The variable that each argument binds, or nowhere.
-    fresh: [u8; 4],
+    /// The arguments that bind a variable: how far the number stands to the left, and which.
+    fresh_count: u8,
+    fresh: [(u8, u8); 4],
     /// The variable bound before that each argument must equal.
     known: [u8; 4],
     /// The bits of the arguments with a known variable, and the constants in place.
@@ -283,7 +286,7 @@ impl Atom {
     /// What a row's numbers must be in the compared bits.
     #[inline(always)]
     pub fn pattern(&self, values: &Values) -> u64 {
-        let value = |argument: usize| u64::from(values[usize::from(self.known[argument] & 15)]);
+        let value = |argument: usize| u64::from(values[usize::from(self.known[argument]) % 32]);
         let known = value(0) | value(1) << 16 | value(2) << 32 | value(3) << 48;
         known & self.variables | self.constants
     }
@@ -291,8 +294,8 @@ impl Atom {
     /// Binds the row's numbers, and tells whether its repeated variables and its tests hold.
     #[inline(always)]
     pub fn accepts(&self, numbers: u64, values: &mut Values, tests: &[Test]) -> bool {
-        for argument in 0..4 {
-            values[usize::from(self.fresh[argument] & 15)] = (numbers >> (16 * argument)) as u16;
+        for (shift, variable) in &self.fresh[..usize::from(self.fresh_count)] {
+            values[usize::from(*variable) % 32] = (numbers >> (shift & 63)) as u16;
         }
         for (first, later) in &self.pair[..usize::from(self.pairs)] {
             if (numbers >> (first & 63)) as u16 != (numbers >> (later & 63)) as u16 {
@@ -303,22 +306,21 @@ impl Atom {
     }
 }
 
-/// A term of a test.
-#[derive(Clone, Copy)]
-enum Term {
-    Constant(u16),
-    Variable(u8),
-}
-
-/// A test.
+/// A test of two places of the values.
 #[derive(Clone, Copy)]
 pub struct Test {
-    number: u8,
-    left: Term,
-    right: Term,
+    left: u8,
+    right: u8,
+    /// One bit for each outcome with which it holds.
+    holds_if: u8,
     /// The number of body atoms after which it can be made.
     depth: u8,
 }
+
+/// The outcomes of a comparison.
+const EQUAL: u8 = 1;
+const LESS: u8 = 2;
+const GREATER: u8 = 4;
 
 /// Whether the tests of that range hold.
 #[inline(always)]
@@ -331,17 +333,12 @@ impl Test {
     /// Whether the test holds.
     #[inline(always)]
     fn holds(&self, values: &Values) -> bool {
-        let value = |term| match term {
-            Term::Constant(value) => value,
-            Term::Variable(variable) => values[usize::from(variable & 15)],
-        };
-        let (left, right) = (value(self.left), value(self.right));
-        match self.number {
-            0 => left == right,
-            1 => left != right,
-            2 => left < right,
-            _ => left <= right,
-        }
+        let left = values[usize::from(self.left) % 32];
+        let right = values[usize::from(self.right) % 32];
+        let outcome = u8::from(left == right) * EQUAL
+            | u8::from(left < right) * LESS
+            | u8::from(left > right) * GREATER;
+        outcome & self.holds_if != 0
     }
 }
 
@@ -358,7 +355,7 @@ impl Head {
     /// The made fact's numbers.
     #[inline(always)]
     pub fn numbers(&self, values: &Values) -> u64 {
-        let value = |argument: usize| u64::from(values[usize::from(self.variable[argument] & 15)]);
+        let value = |argument: usize| u64::from(values[usize::from(self.variable[argument]) % 32]);
         let known = value(0) | value(1) << 16 | value(2) << 32 | value(3) << 48;
         known & self.variables | self.constants
     }
@@ -369,8 +366,9 @@ impl Head {
 pub struct Part {
     pub atoms: (u16, u16),
     pub heads: (u16, u16),
-    /// The tests that need no atom of this part.
+    /// The tests that need no atom of this part, and the constants of all its tests.
     pub before: (u16, u16),
+    constants: (u16, u16),
     /// One bit for each kind of the body.
     pub needs: u64,
     /// The first card atom, or the last atom if there is none: where a sweep goes on.
@@ -391,6 +389,7 @@ pub struct Book {
     pub atoms: Vec<Atom>,
     pub tests: Vec<Test>,
     pub heads: Vec<Head>,
+    constants: Vec<u16>,
     // Of the part being read: the part, whether it is a sweep, where its tests start, its first
     // card atom, and for each variable after how many atoms it is bound, if it is.
     part: Part,
@@ -409,6 +408,7 @@ impl Book {
             atoms: Vec::with_capacity(16),
             tests: Vec::with_capacity(8),
             heads: Vec::with_capacity(16),
+            constants: Vec::with_capacity(16),
             part: Part::default(),
             is_sweep: false,
             first_test: 0,
@@ -425,6 +425,7 @@ impl Book {
         self.part = Part {
             atoms: (atoms, atoms),
             heads: (heads, heads),
+            constants: (self.constants.len() as u16, 0),
             ..Part::default()
         };
         self.first_test = self.tests.len();
@@ -439,6 +440,7 @@ impl Book {
         let part = &mut self.part;
         part.atoms.1 = self.atoms.len() as u16;
         part.heads.1 = self.heads.len() as u16;
+        part.constants.1 = self.constants.len() as u16;
         let first_test = self.first_test as u16;
         let tests = &mut self.tests[self.first_test..];
         tests.sort_by_key(|test| test.depth);
@@ -458,15 +460,25 @@ impl Book {
         }
     }
 
-    /// The term of a test.
-    fn term(&self, term: &[u8]) -> (Term, u8) {
+    /// The place of a test's term in the values, and after how many atoms it is known.
+    fn place(&mut self, term: &[u8]) -> (u8, u8) {
         let value = u16::from_le_bytes([term[1], term[2]]);
-        match term[0] {
-            0 => (Term::Constant(value), 0),
-            _ => {
-                let home = self.home[usize::from(value)].expect("a bound variable");
-                (Term::Variable(value as u8), home)
-            }
+        if term[0] == 1 {
+            let home = self.home[usize::from(value)].expect("a bound variable");
+            return (value as u8, home);
+        }
+        self.constants.push(value);
+        let number = self.constants.len() - 1 - usize::from(self.part.constants.0);
+        ((FIRST_CONSTANT + number) as u8, 0)
+    }
+
+    /// Puts the constants of a part's tests into their places.
+    #[inline(always)]
+    pub fn load_constants(&self, part: &Part, values: &mut Values) {
+        let (start, end) = part.constants;
+        let constants = &self.constants[usize::from(start)..usize::from(end)];
+        for (place, constant) in values[FIRST_CONSTANT..].iter_mut().zip(constants) {
+            *place = *constant;
         }
     }
 }
@@ -508,7 +520,8 @@ impl Pages for Book {
             card,
             pairs: 0,
             pair: [(0, 0); 3],
-            fresh: [NOWHERE; 4],
+            fresh_count: 0,
+            fresh: [(0, 0); 4],
             known: [NOWHERE; 4],
             variables: 0,
             constants: 0,
@@ -526,11 +539,13 @@ impl Pages for Book {
             match self.home[usize::from(value)] {
                 None => {
                     self.home[usize::from(value)] = Some(number + 1);
-                    atom.fresh[argument] = value as u8;
+                    atom.fresh[usize::from(atom.fresh_count)] = (shift as u8, value as u8);
+                    atom.fresh_count += 1;
                 }
                 Some(home) if home == number + 1 => {
-                    let first = atom.fresh.iter().position(|fresh| *fresh == value as u8);
-                    let first = 16 * first.expect("bound by this atom") as u8;
+                    let fresh = &atom.fresh[..usize::from(atom.fresh_count)];
+                    let first = fresh.iter().find(|fresh| fresh.1 == value as u8);
+                    let (first, _) = *first.expect("bound by this atom");
                     atom.pair[usize::from(atom.pairs)] = (first, shift as u8);
                     atom.pairs += 1;
                 }
@@ -545,12 +560,13 @@ impl Pages for Book {
     }
 
     fn test(&mut self, number: u8, terms: &[u8]) {
-        let (left, left_depth) = self.term(&terms[..3]);
-        let (right, right_depth) = self.term(&terms[3..]);
+        let (left, left_depth) = self.place(&terms[..3]);
+        let (right, right_depth) = self.place(&terms[3..]);
+        let holds_if = [EQUAL, LESS | GREATER, LESS, LESS | EQUAL];
         self.tests.push(Test {
-            number,
             left,
             right,
+            holds_if: holds_if[usize::from(number)],
             depth: left_depth.max(right_depth),
         });
     }

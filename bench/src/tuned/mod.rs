@@ -6,6 +6,7 @@
 
 pub mod board;
 pub mod book;
+mod index;
 pub mod machine;
 pub mod plain;
 pub mod refusal;

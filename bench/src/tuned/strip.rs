@@ -18,7 +18,7 @@ pub const JUMP: u8 = 10;
 pub const FIRE: u8 = 11;
 pub const QUIET_WORD: u8 = 12;
 
-/// A word of the strip.
+/// A word of the strip. A SEEK that was read has its kind's class in c and its arity in the value.
 #[derive(Clone, Copy)]
 pub struct Word {
     pub code: u8,
@@ -57,7 +57,7 @@ pub fn read_strip(bytes: &[u8], mut each: impl FnMut(Word)) -> Result<Kinds, Ref
     let mut kinds = Kinds::new();
     let mut bounds = BOUNDS;
     for (number, bytes) in bytes.chunks_exact(WORD_BYTES).enumerate() {
-        let word = Word {
+        let mut word = Word {
             code: bytes[0],
             a: bytes[1],
             b: bytes[2],
@@ -96,6 +96,10 @@ pub fn read_strip(bytes: &[u8], mut each: impl FnMut(Word)) -> Result<Kinds, Ref
                 if loose_left | loose_right {
                     return refuse(STRIP, number);
                 }
+            }
+            SEEK => {
+                word.c = u8::from(!kinds.is_card(word.b));
+                word.value = kinds.arity[usize::from(word.b)].into();
             }
             ARG if word.b == 1 && word.value >= VARIABLES => return refuse(STRIP, number),
             _ => {}
