@@ -109,6 +109,25 @@ impl Index {
         self.placed |= 1 << (kind & 63);
     }
 
+    /// The first place from there on whose numbers equal the pattern in the mask's bits, or the end.
+    #[inline(always)]
+    pub fn next_equal(&self, mut at: usize, end: usize, pattern: u64, mask: u64) -> usize {
+        let numbers = &self.numbers[..end];
+        while at + 4 <= end {
+            let four = &numbers[at..at + 4];
+            for (place, numbers) in four.iter().enumerate() {
+                if (numbers ^ pattern) & mask == 0 {
+                    return at + place;
+                }
+            }
+            at += 4;
+        }
+        while at < end && (numbers[at] ^ pattern) & mask != 0 {
+            at += 1;
+        }
+        at
+    }
+
     /// Finds at least one more row of the kind, of which there are more. Looks at eight rows at
     /// once; gives the new end of the known part.
     #[inline(never)]

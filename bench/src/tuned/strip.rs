@@ -4,24 +4,46 @@ use super::board::Kinds;
 use super::refusal::*;
 use super::sizes::*;
 
-pub const KIND: u8 = 0;
-pub const OPEN_WORD: u8 = 1;
-pub const SEEK: u8 = 2;
-pub const BIND: u8 = 3;
-pub const SAME: u8 = 4;
-pub const LIT: u8 = 5;
-pub const TEST: u8 = 6;
-pub const KEEP: u8 = 7;
-pub const PUT: u8 = 8;
-pub const ARG: u8 = 9;
-pub const JUMP: u8 = 10;
-pub const FIRE: u8 = 11;
-pub const QUIET_WORD: u8 = 12;
+/// The codes of the thirteen words.
+#[derive(Clone, Copy, PartialEq, Eq)]
+#[repr(u8)]
+pub enum Code {
+    Kind = 0,
+    Open = 1,
+    Seek = 2,
+    Bind = 3,
+    Same = 4,
+    Lit = 5,
+    Test = 6,
+    Keep = 7,
+    Put = 8,
+    Arg = 9,
+    Jump = 10,
+    Fire = 11,
+    Quiet = 12,
+}
+
+/// The codes in the order of their numbers.
+const CODES: [Code; 13] = [
+    Code::Kind,
+    Code::Open,
+    Code::Seek,
+    Code::Bind,
+    Code::Same,
+    Code::Lit,
+    Code::Test,
+    Code::Keep,
+    Code::Put,
+    Code::Arg,
+    Code::Jump,
+    Code::Fire,
+    Code::Quiet,
+];
 
 /// A word of the strip. A SEEK that was read has its kind's class in c and its arity in the value.
 #[derive(Clone, Copy)]
 pub struct Word {
-    pub code: u8,
+    pub code: Code,
     pub a: u8,
     pub b: u8,
     pub c: u8,
@@ -45,8 +67,8 @@ const BOUNDS: [[u32; 4]; 13] = [
     [32, 1, 1, 1],
     [1, 1, 1, 1],
 ];
-/// One bit for each code that has a target.
-const WITH_TARGET: u32 = 1 << SEEK | 1 << SAME | 1 << LIT | 1 << TEST | 1 << JUMP;
+/// One bit for each code that has a target: SEEK, SAME, LIT, TEST, JUMP.
+const WITH_TARGET: u32 = 1 << 2 | 1 << 4 | 1 << 5 | 1 << 6 | 1 << 10;
 
 /// Judges a strip in one pass and hands each word on; gives the kinds.
 pub fn read_strip(bytes: &[u8], mut each: impl FnMut(Word)) -> Result<Kinds, Refused> {
@@ -57,18 +79,19 @@ pub fn read_strip(bytes: &[u8], mut each: impl FnMut(Word)) -> Result<Kinds, Ref
     let mut kinds = Kinds::new();
     let mut bounds = BOUNDS;
     for (number, bytes) in bytes.chunks_exact(WORD_BYTES).enumerate() {
+        let Some(&code) = CODES.get(usize::from(bytes[0])) else {
+            return refuse(STRIP, number);
+        };
         let mut word = Word {
-            code: bytes[0],
+            code,
             a: bytes[1],
             b: bytes[2],
             c: bytes[3],
             value: u16::from_le_bytes([bytes[4], bytes[5]]),
             target: u16::from_le_bytes([bytes[6], bytes[7]]),
         };
-        let Some([a, b, c, value]) = bounds.get(usize::from(word.code)) else {
-            return refuse(STRIP, number);
-        };
-        let targets = match WITH_TARGET >> word.code & 1 {
+        let [a, b, c, value] = &bounds[code as usize];
+        let targets = match WITH_TARGET >> code as u32 & 1 {
             0 => 1,
             _ => words,
         };
@@ -80,16 +103,16 @@ pub fn read_strip(bytes: &[u8], mut each: impl FnMut(Word)) -> Result<Kinds, Ref
         if !sound {
             return refuse(STRIP, number);
         }
-        match word.code {
-            KIND => {
+        match code {
+            Code::Kind => {
                 if number != kinds.count || number == KINDS {
                     return refuse(STRIP, number);
                 }
                 kinds.push(word.a == 0, word.b);
-                bounds[usize::from(SEEK)][1] += 1;
-                bounds[usize::from(PUT)][0] += 1;
+                bounds[Code::Seek as usize][1] += 1;
+                bounds[Code::Put as usize][0] += 1;
             }
-            TEST => {
+            Code::Test => {
                 let left = u16::from_le_bytes([word.b, word.c]);
                 let loose_left = word.a & 2 != 0 && left >= VARIABLES;
                 let loose_right = word.a & 1 != 0 && word.value >= VARIABLES;
@@ -97,18 +120,17 @@ pub fn read_strip(bytes: &[u8], mut each: impl FnMut(Word)) -> Result<Kinds, Ref
                     return refuse(STRIP, number);
                 }
             }
-            SEEK => {
+            Code::Seek => {
                 word.c = u8::from(!kinds.is_card(word.b));
                 word.value = kinds.arity[usize::from(word.b)].into();
             }
-            ARG if word.b == 1 && word.value >= VARIABLES => return refuse(STRIP, number),
+            Code::Arg if word.b == 1 && word.value >= VARIABLES => return refuse(STRIP, number),
             _ => {}
         }
         each(word);
     }
-    let last = bytes[bytes.len() - WORD_BYTES];
-    match last {
-        JUMP | FIRE | QUIET_WORD => Ok(kinds),
+    match bytes[bytes.len() - WORD_BYTES] {
+        10..=12 => Ok(kinds),
         _ => refuse(STRIP, words as usize - 1),
     }
 }

@@ -2,7 +2,7 @@
 
 use super::board::Kinds;
 use super::sizes::*;
-use super::strip::*;
+use super::strip::Code;
 
 /// The word number that stands for the way out of a part until it is known.
 const WAY_OUT: u16 = u16::MAX;
@@ -25,10 +25,10 @@ struct Tape<'a> {
 }
 
 impl Tape<'_> {
-    fn word(&mut self, code: u8, abc: [u8; 3], value: u16, target: u16) {
+    fn word(&mut self, code: Code, abc: [u8; 3], value: u16, target: u16) {
         let at = usize::from(self.words) * WORD_BYTES;
         let word = &mut self.out[at..at + WORD_BYTES];
-        word[0] = code;
+        word[0] = code as u8;
         word[1..4].copy_from_slice(&abc);
         word[4..6].copy_from_slice(&value.to_le_bytes());
         word[6..].copy_from_slice(&target.to_le_bytes());
@@ -48,7 +48,7 @@ impl Tape<'_> {
     fn keep(&mut self) {
         if !self.kept {
             self.kept = true;
-            self.word(KEEP, [0; 3], 0, 0);
+            self.word(Code::Keep, [0; 3], 0, 0);
         }
     }
 
@@ -57,7 +57,7 @@ impl Tape<'_> {
         self.keep();
         if is_sweep {
             let again = self.again.unwrap_or(self.seek);
-            self.word(JUMP, [0; 3], 0, again);
+            self.word(Code::Jump, [0; 3], 0, again);
             self.set_target(self.start + 1);
         }
     }
@@ -71,34 +71,34 @@ impl Tape<'_> {
     fn body(&mut self, kind: u8, terms: &[u8]) {
         let cursor = self.cursor;
         self.cursor += 1;
-        self.word(OPEN_WORD, [cursor, 0, 0], 0, 0);
+        self.word(Code::Open, [cursor, 0, 0], 0, 0);
         let target = self.seek;
         self.seek = self.words;
         if self.kinds.is_card(kind) {
             self.again = self.again.or(Some(self.seek));
         }
-        self.word(SEEK, [cursor, kind, 0], 0, target);
+        self.word(Code::Seek, [cursor, kind, 0], 0, target);
         for (argument, term) in terms.chunks_exact(3).enumerate() {
             let argument = argument as u8;
             let value = u16::from_le_bytes([term[1], term[2]]);
             let register = term[1];
             if term[0] == 0 {
-                self.word(LIT, [cursor, argument, 0], value, self.seek);
+                self.word(Code::Lit, [cursor, argument, 0], value, self.seek);
             } else if self.bound >> value & 1 == 1 {
-                self.word(SAME, [cursor, argument, register], 0, self.seek);
+                self.word(Code::Same, [cursor, argument, register], 0, self.seek);
             } else {
                 self.bound |= 1 << value;
-                self.word(BIND, [cursor, argument, register], 0, 0);
+                self.word(Code::Bind, [cursor, argument, register], 0, 0);
             }
         }
     }
 
     fn head(&mut self, kind: u8, terms: &[u8]) {
         self.keep();
-        self.word(PUT, [kind, 0, 0], 0, 0);
+        self.word(Code::Put, [kind, 0, 0], 0, 0);
         for (position, term) in terms.chunks_exact(3).enumerate() {
             let value = u16::from_le_bytes([term[1], term[2]]);
-            self.word(ARG, [position as u8, term[0], 0], value, 0);
+            self.word(Code::Arg, [position as u8, term[0], 0], value, 0);
         }
     }
 }
@@ -129,7 +129,7 @@ pub fn translate(kinds: &Kinds, book: &[u8], out: &mut [u8]) -> usize {
         };
         match &book[at..at + 2] {
             b"kd" => {
-                tape.word(KIND, [book[at + 2], book[at + 3], 0], 0, 0);
+                tape.word(Code::Kind, [book[at + 2], book[at + 3], 0], 0, 0);
                 at += 4;
             }
             b"ba" => {
@@ -143,7 +143,7 @@ pub fn translate(kinds: &Kinds, book: &[u8], out: &mut [u8]) -> usize {
                 let value = u16::from_le_bytes([book[at + 7], book[at + 8]]);
                 let seek = tape.seek;
                 tape.word(
-                    TEST,
+                    Code::Test,
                     [4 * book[at + 2] + 2 * tag + right, low, high],
                     value,
                     seek,
@@ -168,7 +168,7 @@ pub fn translate(kinds: &Kinds, book: &[u8], out: &mut [u8]) -> usize {
             mark => {
                 if let Some(rule) = rule {
                     tape.close(sweeps > 0);
-                    tape.word(FIRE, [rule, 0, 0], 0, 0);
+                    tape.word(Code::Fire, [rule, 0, 0], 0, 0);
                     tape.set_target(tape.rule_start + 1);
                 }
                 if mark == b"en" {
@@ -183,6 +183,6 @@ pub fn translate(kinds: &Kinds, book: &[u8], out: &mut [u8]) -> usize {
             }
         }
     }
-    tape.word(QUIET_WORD, [0; 3], 0, 0);
+    tape.word(Code::Quiet, [0; 3], 0, 0);
     usize::from(tape.words) * WORD_BYTES
 }
