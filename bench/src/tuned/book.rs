@@ -279,7 +279,8 @@ pub struct Atom {
     /// The bits of all arguments that are compared.
     pub mask: u64,
     /// The tests made here.
-    tests: (u16, u16),
+    test_count: u8,
+    tests: [Test; RULE_GROUP as usize],
 }
 
 impl Atom {
@@ -293,7 +294,7 @@ impl Atom {
 
     /// Binds the row's numbers, and tells whether its repeated variables and its tests hold.
     #[inline(always)]
-    pub fn accepts(&self, numbers: u64, values: &mut Values, tests: &[Test]) -> bool {
+    pub fn accepts(&self, numbers: u64, values: &mut Values) -> bool {
         for (shift, variable) in &self.fresh[..usize::from(self.fresh_count)] {
             values[usize::from(*variable) % 32] = (numbers >> (shift & 63)) as u16;
         }
@@ -302,31 +303,20 @@ impl Atom {
                 return false;
             }
         }
-        all_hold(self.tests, values, tests)
+        let tests = &self.tests[..usize::from(self.test_count)];
+        tests.iter().all(|test| test.holds(values))
     }
 }
 
 /// A test of two places of the values.
-#[derive(Clone, Copy)]
+#[derive(Clone, Copy, Default)]
 pub struct Test {
     left: u8,
     right: u8,
-    /// One bit for each outcome with which it holds.
+    /// One bit for each outcome with which it holds: less, equal, greater.
     holds_if: u8,
     /// The number of body atoms after which it can be made.
     depth: u8,
-}
-
-/// The outcomes of a comparison.
-const EQUAL: u8 = 1;
-const LESS: u8 = 2;
-const GREATER: u8 = 4;
-
-/// Whether the tests of that range hold.
-#[inline(always)]
-pub fn all_hold(range: (u16, u16), values: &Values, tests: &[Test]) -> bool {
-    let tests = &tests[usize::from(range.0)..usize::from(range.1)];
-    tests.iter().all(|test| test.holds(values))
 }
 
 impl Test {
@@ -335,10 +325,8 @@ impl Test {
     fn holds(&self, values: &Values) -> bool {
         let left = values[usize::from(self.left) % 32];
         let right = values[usize::from(self.right) % 32];
-        let outcome = u8::from(left == right) * EQUAL
-            | u8::from(left < right) * LESS
-            | u8::from(left > right) * GREATER;
-        outcome & self.holds_if != 0
+        let outcome = u32::from(left >= right) + u32::from(left > right);
+        self.holds_if >> outcome & 1 == 1
     }
 }
 
@@ -367,7 +355,7 @@ pub struct Part {
     pub atoms: (u16, u16),
     pub heads: (u16, u16),
     /// The tests that need no atom of this part, and the constants of all its tests.
-    pub before: (u16, u16),
+    before: (u16, u16),
     constants: (u16, u16),
     /// One bit for each kind of the body.
     pub needs: u64,
@@ -387,7 +375,7 @@ pub struct Rule {
 pub struct Book {
     pub rules: Vec<Rule>,
     pub atoms: Vec<Atom>,
-    pub tests: Vec<Test>,
+    tests: Vec<Test>,
     pub heads: Vec<Head>,
     constants: Vec<u16>,
     // Of the part being read: the part, whether it is a sweep, where its tests start, its first
@@ -444,12 +432,14 @@ impl Book {
         let first_test = self.first_test as u16;
         let tests = &mut self.tests[self.first_test..];
         tests.sort_by_key(|test| test.depth);
-        let up_to =
-            |depth: u8| first_test + tests.partition_point(|test| test.depth <= depth) as u16;
-        part.before = (first_test, up_to(0));
+        let of_depth = |depth: u8| tests.iter().filter(move |test| test.depth == depth);
+        part.before = (first_test, first_test + of_depth(0).count() as u16);
         let atoms = &mut self.atoms[usize::from(part.atoms.0)..];
         for (number, atom) in atoms.iter_mut().enumerate() {
-            atom.tests = (up_to(number as u8), up_to(number as u8 + 1));
+            for test in of_depth(number as u8 + 1) {
+                atom.tests[usize::from(atom.test_count)] = *test;
+                atom.test_count += 1;
+            }
         }
         part.back = self.first_card.unwrap_or(atoms.len() as u8 - 1);
         if self.is_sweep {
@@ -472,14 +462,17 @@ impl Book {
         ((FIRST_CONSTANT + number) as u8, 0)
     }
 
-    /// Puts the constants of a part's tests into their places.
+    /// Puts the constants of a part's tests into their places, and tells whether those tests hold
+    /// that need no atom of it.
     #[inline(always)]
-    pub fn load_constants(&self, part: &Part, values: &mut Values) {
+    pub fn begin(&self, part: &Part, values: &mut Values) -> bool {
         let (start, end) = part.constants;
         let constants = &self.constants[usize::from(start)..usize::from(end)];
         for (place, constant) in values[FIRST_CONSTANT..].iter_mut().zip(constants) {
             *place = *constant;
         }
+        let before = &self.tests[usize::from(part.before.0)..usize::from(part.before.1)];
+        before.iter().all(|test| test.holds(values))
     }
 }
 
@@ -526,7 +519,8 @@ impl Pages for Book {
             variables: 0,
             constants: 0,
             mask: 0,
-            tests: (0, 0),
+            test_count: 0,
+            tests: [Test::default(); RULE_GROUP as usize],
         };
         for (argument, term) in terms.chunks_exact(3).enumerate() {
             let value = u16::from_le_bytes([term[1], term[2]]);
@@ -562,7 +556,7 @@ impl Pages for Book {
     fn test(&mut self, number: u8, terms: &[u8]) {
         let (left, left_depth) = self.place(&terms[..3]);
         let (right, right_depth) = self.place(&terms[3..]);
-        let holds_if = [EQUAL, LESS | GREATER, LESS, LESS | EQUAL];
+        let holds_if = [0b010, 0b101, 0b001, 0b011];
         self.tests.push(Test {
             left,
             right,
