@@ -186,7 +186,8 @@ fn ring_of_four(rows: usize) -> Files {
 /// go() with sweep a(X,K), b(K,Y) to p(X,Y) over half of the rows each; the b's stand in the
 /// opposite order, or have other keys.
 fn card_sweep(rows: usize, taken: bool) -> Files {
-    let half = ((rows - 1).min(rows / 2 * 2) / 2) as u16;
+    // At 256 rows go() needs one of them.
+    let half = (rows / 2).min(127) as u16;
     let mut book = Book::new();
     let [go, a, b] = [book.card(0), book.card(2), book.card(2)];
     let [p, done] = [book.card(2), book.card(0)];

@@ -1,7 +1,8 @@
-//! The tuned implementation gives the second program's answers and bytes on its samples.
+//! The tuned implementation, and the engine if it is linked, give the second program's answers and
+//! bytes on its samples.
 
 use bench::answer::Answer;
-use bench::programs::{Program, Second, Tuned};
+use bench::programs::{programs, Program, Second};
 use second::samples::calls::{call, Call, Entry};
 
 /// The answer and the output of a call, the output filled with a byte before.
@@ -23,20 +24,16 @@ fn made_by(program: &dyn Program, call: &Call) -> (Answer, Vec<u8>) {
 
 /// Compares the calls of these seeds.
 fn compare(seeds: std::ops::Range<u64>) {
+    let programs = programs();
     for seed in seeds {
         let call = call(seed);
         let expected = made_by(&Second, &call);
-        let made = made_by(&Tuned, &call);
-        assert_eq!(
-            made.0, expected.0,
-            "answer of call {seed}, {:?}",
-            call.entry
-        );
-        assert!(
-            made.1 == expected.1,
-            "output of call {seed}, {:?}",
-            call.entry
-        );
+        for program in programs.iter().filter(|program| program.name() != "second") {
+            let made = made_by(&**program, &call);
+            let what = (program.name(), seed, call.entry);
+            assert_eq!(made.0, expected.0, "answer of {what:?}");
+            assert!(made.1 == expected.1, "output of {what:?}");
+        }
     }
 }
 

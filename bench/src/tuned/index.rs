@@ -12,7 +12,8 @@ pub struct List {
     scanned: u16,
 }
 
-/// The lists; those of cards stand from 0, those of notices from 256.
+/// The lists; those of cards stand from 0, those of notices from 256. At the place past the end
+/// stands the row past the end.
 pub struct Index {
     pub rows: [u16; ROWS],
     pub numbers: [u64; ROWS],
@@ -44,6 +45,7 @@ impl Index {
             present: 0,
             cards: kinds.cards,
         };
+        index.rows[usize::from(PAST)] = PAST;
         for card in [true, false] {
             let (start, end) = board.span(card);
             index.count_in(&board.kinds[start..end]);
