@@ -14,6 +14,9 @@ use timing::{time, Pace, Times};
 /// An allowance that no attempt uses up.
 const ALLOWANCE: u64 = u64::MAX;
 
+/// A call that each program makes.
+type Call = Box<dyn Fn(&dyn Program, &mut [u8]) -> Answer>;
+
 /// One thing that is timed: a call that each program makes, and what its cost is divided by.
 struct Line {
     name: &'static str,
@@ -21,7 +24,7 @@ struct Line {
     rows: usize,
     unit: &'static str,
     units: f64,
-    call: Box<dyn Fn(&dyn Program, &mut [u8]) -> Answer>,
+    call: Call,
 }
 
 fn main() {
@@ -151,13 +154,20 @@ fn compare(line: &Line, programs: &[Box<dyn Program>]) {
     }
 }
 
-/// Compares the programs' answers, then times them.
-fn measure(line: &Line, programs: &[Box<dyn Program>], pace: &Pace) -> Vec<Times> {
-    compare(line, programs);
+/// Compares the programs' answers, then times them, all lines in the same rounds; gives for each
+/// line the programs' times.
+fn measure(lines: &[&Line], programs: &[Box<dyn Program>], pace: &Pace) -> Vec<Vec<Times>> {
+    lines.iter().for_each(|line| compare(line, programs));
     let mut out = vec![0; LONGEST_STRIP];
-    time(pace, programs.len(), |program| {
-        std::hint::black_box((line.call)(&*programs[program], &mut out));
-    })
+    let mut times = time(pace, lines.len() * programs.len(), |turn| {
+        let (line, program) = (turn / programs.len(), turn % programs.len());
+        std::hint::black_box((lines[line].call)(&*programs[program], &mut out));
+    });
+    let mut by_line = Vec::new();
+    for _ in lines {
+        by_line.push(times.drain(..programs.len()).collect());
+    }
+    by_line
 }
 
 // ---------------------------------------------------------------- the tables
@@ -178,7 +188,7 @@ fn print_costs(programs: &[Box<dyn Program>], pace: &Pace) {
     println!("{head}\n{rule}");
     let cases = CASES.iter().flat_map(|case| lines(case, case.rows));
     for line in cases.chain(reading_lines()) {
-        let times = measure(&line, programs, pace);
+        let times = measure(&[&line], programs, pace).remove(0);
         let rows = match line.rows {
             0 => String::new(),
             rows => rows.to_string(),
@@ -207,25 +217,17 @@ fn print_growth(programs: &[Box<dyn Program>], pace: &Pace) {
         let sizes: Vec<[Line; 2]> = case.sizes.iter().map(|rows| lines(case, *rows)).collect();
         for entry in 0..2 {
             let lines: Vec<&Line> = sizes.iter().map(|lines| &lines[entry]).collect();
-            let times: Vec<Vec<Times>> = lines
-                .iter()
-                .map(|line| measure(line, programs, pace))
-                .collect();
+            let times = measure(&lines, programs, pace);
             for (number, program) in programs.iter().enumerate() {
-                print!(
-                    "| {} | {} | {} | {} |",
-                    case.name,
-                    lines[0].entry,
-                    case.sizes[3],
-                    program.name()
-                );
+                let (name, entry, rows) = (case.name, lines[0].entry, case.sizes[3]);
+                print!("| {name} | {entry} | {rows} | {} |", program.name());
                 for (line, times) in lines.iter().zip(&times) {
                     print!(" {} |", short(times[number].median / line.units));
                 }
                 println!(
                     " {:.1} | {:.1} |",
                     lines[3].units / lines[0].units,
-                    times[3][number].median / times[0][number].median
+                    times[3][number].ratio / times[0][number].ratio
                 );
             }
         }

@@ -37,11 +37,11 @@ pub fn time(pace: &Pace, programs: usize, mut call: impl FnMut(usize)) -> Vec<Ti
     let calls: Vec<u32> = (0..programs)
         .map(|program| calls_in_sample(pace, program, &mut call))
         .collect();
-    let mut samples = vec![vec![0.0; pace.rounds]; programs];
+    let mut samples = vec![Vec::new(); programs];
     for round in 0..pace.rounds {
         for turn in 0..programs {
             let program = (round + turn) % programs;
-            samples[program][round] = sample(program, calls[program], &mut call);
+            samples[program].push(sample(program, calls[program], &mut call));
         }
     }
     let times = samples.iter().map(|own| {

@@ -72,7 +72,7 @@ const WITH_TARGET: u32 = 1 << 2 | 1 << 4 | 1 << 5 | 1 << 6 | 1 << 10;
 
 /// Judges a strip in one pass and hands each word on; gives the kinds.
 pub fn read_strip(bytes: &[u8], mut each: impl FnMut(Word)) -> Result<Kinds, Refused> {
-    if bytes.is_empty() || bytes.len() > LONGEST_STRIP || bytes.len() % WORD_BYTES != 0 {
+    if bytes.is_empty() || bytes.len() > LONGEST_STRIP || !bytes.len().is_multiple_of(WORD_BYTES) {
         return refuse(STRIP, 0);
     }
     let words = (bytes.len() / WORD_BYTES) as u32;
