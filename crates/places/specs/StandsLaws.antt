@@ -1,0 +1,65 @@
+-- On a file no longer than the longest book, the readers by position find what crates/files InPlace reads: a mark has no zero letter, so where one
+-- stands the place lies within the file.
+use Prim.Native.Nat.{ℕ, zero, suc, _+_, _≤_, _<_}
+use native.Mathlib.Nat.{add-zero}
+use native.Mathlib.Omega.{arith}
+use mathlib.Core.Path.{_≡_, refl, sym, ap, _∙_}
+use mathlib.Core.Bool.{Bool, true, false, _&&_}
+use mathlib.Core.List.{List, []}
+use lib.ListN.{length, getD, List·getD-eq-default}
+use lib.Dec.{eqb, ltb}
+use borrow.Author.Tests.{ltb-true, ltb-false, lt-ltb, ne-eqb}
+use Rattle.meaning.specs.Basics.{if_then_else_}
+use Rattle.meaning.specs.Facts.{longestBook}
+use Rattle.files.specs.Marks.{isMark}
+use Rattle.files.specs.InPlace.{byteAt, termOf, termAt, testAt, comparisonOf, Read, prepend, recordsAt}
+use Rattle.places.specs.Stands.{markStands, termStands, testStands, recordsFrom}
+use Rattle.places.specs.declared.Span.{Span}
+
+-- where a mark stands, the place is within the longest book
+pub stands-near : (file mark : List ℕ) (p : ℕ) → markStands file mark p ≡ true → p < longestBook
+stands-near file mark p h = by (ltb p longestBook) refl h
+  where
+    by : (t : Bool) → ltb p longestBook ≡ t → (t && isMark mark (byteAt file p) (byteAt file (p + 1))) ≡ true → p < longestBook
+    by true e k = ltb-true p longestBook e
+    by false e k = let z : _≡_ {A = ℕ} 0 1 = cc in let bad : ⊥ = omega arith in absurd bad
+
+-- within a file that is no longer than that, asking for the mark is asking whether it stands
+pub stands-is : (file mark : List ℕ) (p : ℕ) → length file ≤ longestBook → (getD mark 0 0 ≡ 0 → ⊥)
+    → markStands file mark p ≡ isMark mark (byteAt file p) (byteAt file (p + 1))
+stands-is file mark p short letter = by (ltb p longestBook) refl
+  where
+    by : (t : Bool) → ltb p longestBook ≡ t → (t && isMark mark (byteAt file p) (byteAt file (p + 1))) ≡ isMark mark (byteAt file p) (byteAt file (p + 1))
+    by true e = refl
+    by false e =
+        let zero-here : byteAt file p ≡ 0 = List·getD-eq-default file 0 (omega (arith, ltb-false p longestBook e)) in
+        sym (ap (λ (t : Bool). t && eqb (byteAt file (p + 1)) (getD mark 1 0)) (ne-eqb (byteAt file p) (getD mark 0 0) (λ q. letter (sym q ∙ zero-here))))
+
+-- so many records that are counted already, and those that were read
+abbrev pub counted : {A : Type 0} → ℕ → Read (List A) → Span
+counted n read = record { count = n + length (read .value); next = read .next }
+
+-- "so many records, and the place after them" are those that InPlace reads, where an item ends its size after its mark
+pub from-is : {A : Type 0} (file mark : List ℕ) (size : ℕ → ℕ) (item : ℕ → Read A) → length file ≤ longestBook → (getD mark 0 0 ≡ 0 → ⊥)
+    → ((p : ℕ) → item p .next ≡ p + size p) → (left n p : ℕ) → recordsFrom file mark size left n p ≡ counted n (recordsAt file mark item left p)
+unfolding recordsFrom recordsAt
+from-is file mark size item short letter ends zero n p = ap (λ (k : ℕ). record { count = k; next = p }) (sym (add-zero n))
+from-is {A} file mark size item short letter ends (suc left) n p =
+    ap (λ (t : Bool). if t then recordsFrom file mark size left (suc n) (p + 2 + size (p + 2)) else record { count = n; next = p }) (stands-is file mark p short letter)
+    ∙ by (isMark mark (byteAt file p) (byteAt file (p + 1))) (prepend (item (p + 2) .value) (recordsAt file mark item left (item (p + 2) .next)))
+    (ap (recordsFrom file mark size left (suc n)) (sym (ends (p + 2))) ∙ from-is file mark size item short letter ends left (suc n) (item (p + 2) .next)
+    ∙ ap (λ (k : ℕ). record { count = k; next = recordsAt file mark item left (item (p + 2) .next) .next }) (omega arith))
+  where
+    by : (t : Bool) (read : Read (List A)) → recordsFrom file mark size left (suc n) (p + 2 + size (p + 2)) ≡ counted n read
+        → (if t then recordsFrom file mark size left (suc n) (p + 2 + size (p + 2)) else record { count = n; next = p })
+        ≡ counted n (if t then read else record { value = []; next = p })
+    by true read h = h
+    by false read h = ap (λ (k : ℕ). record { count = k; next = p }) (sym (add-zero n))
+
+-- the fields are those of the term and of the test that InPlace reads
+pub term-is : (file : List ℕ) (p : ℕ) → termOf (termStands file p .tag) (termStands file p .value) ≡ termAt file p
+term-is file p = refl
+
+pub test-is : (file : List ℕ) (p : ℕ) → p < longestBook → let t = testStands file p in
+    record { comparison = comparisonOf (t .number); left = termOf (t .left .tag) (t .left .value); right = termOf (t .right .tag) (t .right .value) } ≡ testAt file p .value
+test-is file p near = rw (lt-ltb p longestBook near)
