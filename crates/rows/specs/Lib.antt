@@ -1,0 +1,6 @@
+pub mod Held
+pub mod HeldLaws
+pub mod Loads
+pub mod LoadsLaws
+pub mod Settles
+pub mod SettlesLaws
