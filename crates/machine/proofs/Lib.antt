@@ -7,3 +7,4 @@ pub mod SeekLaws
 pub mod ArgumentLaws
 pub mod MadeLaws
 pub mod CodeLaws
+pub mod BurstLaws
