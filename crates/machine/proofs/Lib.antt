@@ -1,0 +1,10 @@
+pub mod PlaceLaws
+pub mod MarkLaws
+pub mod StripLaws
+pub mod FactLaws
+pub mod WordLaws
+pub mod SeekLaws
+pub mod ArgumentLaws
+pub mod MadeLaws
+pub mod CodeLaws
+pub mod BurstLaws

@@ -1,0 +1,4 @@
+pub mod Places
+pub mod Represents
+pub mod Effects
+pub mod Bursts
