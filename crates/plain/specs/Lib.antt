@@ -1,2 +1,4 @@
 pub mod Search
 pub mod SearchLaws
+pub mod Represents
+pub mod Decoded

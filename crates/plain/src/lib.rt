@@ -1,0 +1,2 @@
+// The plain runner of a rule book.
+mod search;
