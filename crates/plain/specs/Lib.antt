@@ -2,3 +2,4 @@ pub mod Search
 pub mod SearchLaws
 pub mod Represents
 pub mod Decoded
+pub mod Stands
