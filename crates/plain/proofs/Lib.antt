@@ -5,3 +5,4 @@ pub mod TestLaws
 pub mod ListLaws
 pub mod LoopLaws
 pub mod Going
+pub mod HomeLaws

@@ -3,3 +3,4 @@ pub mod SearchLaws
 pub mod Represents
 pub mod Decoded
 pub mod Stands
+pub mod Prepare

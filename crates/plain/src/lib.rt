@@ -1,2 +1,3 @@
 // The plain runner of a rule book.
+mod homes;
 mod search;
