@@ -6,3 +6,5 @@ pub mod ListLaws
 pub mod LoopLaws
 pub mod Going
 pub mod HomeLaws
+pub mod MakeLaws
+pub mod ListsLaws
