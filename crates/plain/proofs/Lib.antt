@@ -8,3 +8,5 @@ pub mod Going
 pub mod HomeLaws
 pub mod MakeLaws
 pub mod ListsLaws
+pub mod GroupLaws
+pub mod LookLaws

@@ -4,3 +4,4 @@ pub mod Represents
 pub mod Decoded
 pub mod Stands
 pub mod Prepare
+pub mod Look
