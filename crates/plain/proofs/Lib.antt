@@ -1,0 +1,12 @@
+pub mod RowLaws
+pub mod FitLaws
+pub mod RowFit
+pub mod TestLaws
+pub mod ListLaws
+pub mod LoopLaws
+pub mod Going
+pub mod HomeLaws
+pub mod MakeLaws
+pub mod ListsLaws
+pub mod GroupLaws
+pub mod LookLaws
