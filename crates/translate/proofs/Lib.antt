@@ -6,3 +6,5 @@ pub mod ArgumentsLeft
 pub mod AtomLaws
 pub mod Records
 pub mod BodyLeft
+pub mod RecordsLeft
+pub mod PartLaws
