@@ -8,3 +8,6 @@ pub mod Records
 pub mod BodyLeft
 pub mod RecordsLeft
 pub mod PartLaws
+pub mod GroupLaws
+pub mod SweepLaws
+pub mod RuleLaws
