@@ -11,3 +11,4 @@ pub mod PartLaws
 pub mod GroupLaws
 pub mod SweepLaws
 pub mod RuleLaws
+pub mod StripLaws
