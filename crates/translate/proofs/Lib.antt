@@ -1,0 +1,14 @@
+pub mod Stores
+pub mod Bound
+pub mod Leaves
+pub mod ArgumentLaws
+pub mod ArgumentsLeft
+pub mod AtomLaws
+pub mod Records
+pub mod BodyLeft
+pub mod RecordsLeft
+pub mod PartLaws
+pub mod GroupLaws
+pub mod SweepLaws
+pub mod RuleLaws
+pub mod StripLaws
