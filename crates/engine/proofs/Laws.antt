@@ -18,6 +18,12 @@ use Rattle.files.specs.Book.{judgeBook}
 use Rattle.files.specs.Strip.{judgeStrip}
 use Rattle.files.specs.Entries.{Outcome, nothingWritten, ifAccepted, checkBook, checkBoard, checkStrip}
 use Rattle.book_encoding.specs.Placed.{book-in-place}
+use Rattle.book.specs.Told.{bookTold}
+use Rattle.book.specs.declared.BookChecked.{BookChecked}
+use Rattle.translate.specs.Answers as A
+use Rattle.translate.specs.Answers.{translatedAnswer}
+use Rattle.translate.specs.declared.Translated.{Translated}
+use Rattle.translate.specs.declared.Translated.the-variants as T
 use Rattle.engine.specs.Shown.{atMostPlace, mostPlace, shown, toldAnswer, refusedBy, isNone}
 
 pub place-small : (place : ℕ) → place < mostPlace → place ≡ atMostPlace place
@@ -77,3 +83,23 @@ board-answer bookFile boardFile o p t kinds a bytes e i n k j h = by (judgeBook 
     by (accepted b) v q =
         let same : kinds ≡ b .kinds = k ∙ book-in-place bookFile b bytes v .1 in
         h ∙ ap shown (ap (toldAnswer board) (j ∙ ap (λ (ks : List Kind). told (judgeBoard ks boardFile)) same) ∙ sym (check-told board (judgeBoard (b .kinds) boardFile)))
+
+-- ---- a translation
+
+same-told : (o : Option (Refusal × ℕ)) → toldAnswer book o ≡ A.toldAnswer o
+same-told none = refl
+same-told (some (why, place)) = refl
+
+-- the book is refused
+pub translated-refused : (t : Translated) (said : BookChecked) (a : N.Answer) → t ≡ T.Refused said → a ≡ shown (toldAnswer book (bookTold said)) → a ≡ shown (translatedAnswer t)
+translated-refused t said a e h = h ∙ ap shown (same-told (bookTold said)) ∙ ap (λ (x : Translated). shown (translatedAnswer x)) (sym e)
+
+-- the output is too short
+pub translated-short : (t : Translated) (a : N.Answer) → t ≡ T.Short → a ≡ refusedBy 4 10 0 → a ≡ shown (translatedAnswer t)
+translated-short t a e h = h ∙ ap (λ (x : Translated). shown (translatedAnswer x)) (sym e)
+
+-- the strip is written
+pub translated-done : (t : Translated) (length shownLength : ℕ) → t ≡ T.Done length → shownLength ≡ atMostPlace length
+    → _≡_ {A = N.Answer} (record { number = 0; file = 0; place = 0; length = shownLength; firings = 0; rule = 255 }) (shown (translatedAnswer t))
+translated-done t length shownLength e h =
+    ap (λ (n : ℕ). record { number = 0; file = 0; place = 0; length = n; firings = 0; rule = 255 }) h ∙ ap (λ (x : Translated). shown (translatedAnswer x)) (sym e)

@@ -1,4 +1,4 @@
--- What the struct that C receives says, in the terms of crates/files Numbers. Its place has 32 bits: a place past those is shown as the largest.
+-- What the struct that C receives says, in the terms of crates/files Numbers. Its place and length have 32 bits: a number past those is shown as the largest.
 use Prim.Native.Nat.{ℕ}
 use mathlib.Core.Bool.{Bool, true, false}
 use mathlib.Core.Option.{Option, none, some}
@@ -19,7 +19,8 @@ atMostPlace place = if ltb place mostPlace then place else mostPlace
 
 -- an answer as C sees it
 abbrev pub shown : N.Answer → N.Answer
-shown a = record { number = a .number; file = a .file; place = atMostPlace (a .place); length = a .length; firings = a .firings; rule = a .rule }
+shown a =
+    record { number = a .number; file = a .file; place = atMostPlace (a .place); length = atMostPlace (a .length); firings = a .firings; rule = a .rule }
 
 -- the answer of a check, by what it tells
 abbrev pub toldAnswer : File → Option (Refusal × ℕ) → N.Answer

@@ -2,11 +2,14 @@
 use board::BoardChecked;
 use book::BookChecked;
 use strip::StripChecked;
+use translate::Translated;
 ghost use mathlib.Core.Path.{_≡_};
 ghost use Prim.Native.Nat.{ℕ, _<_};
 ghost use Rattle.files.specs.Numbers as N;
 ghost use Rattle.files.specs.Numbers.{book, strip, board};
-ghost use Rattle.files.specs.Entries.{checkBook, checkBoard, checkStrip};
+ghost use Rattle.files.specs.Entries.{bytesAfter, checkBook, checkBoard, checkStrip, translateFile};
+ghost use Rattle.translate.specs.Answers.{translatedAnswer};
+ghost use lib.ListN.{length};
 ghost use Rattle.book.specs.Told.{bookTold};
 ghost use Rattle.board.specs.Told.{boardTold};
 ghost use Rattle.strip.specs.Told.{stripTold};
@@ -24,8 +27,8 @@ pub struct Answer {
     pub length: u32,
 }
 
-// A place in 32 bits.
-fn place_in_32(place: usize) -> u32
+// A place or a length in 32 bits.
+fn in_32(place: usize) -> u32
     ensures { λ r. ⌜ r ≡ atMostPlace place ⌝ }
 {
     if place < 4294967295 {
@@ -43,7 +46,7 @@ fn refusal(file: u8, number: u8, place: usize) -> Answer
         file,
         rule: 255,
         firings: 0,
-        place: place_in_32(place),
+        place: in_32(place),
         length: 0,
     }
 }
@@ -105,6 +108,24 @@ fn of_strip(told: StripChecked) -> Answer
     }
 }
 
+// The answer of a translation.
+fn of_translated(translated: Translated) -> Answer
+    ensures { λ r. ⌜ answerOf r ≡ shown (translatedAnswer translated) ⌝ }
+{
+    match translated {
+        Translated::Refused(told) => of_book(told),
+        Translated::Short => refusal(4, 10, 0),
+        Translated::Done(length) => Answer {
+            number: 0,
+            file: 0,
+            rule: 255,
+            firings: 0,
+            place: 0,
+            length: in_32(length),
+        },
+    }
+}
+
 // Is the file a rule book?
 #[no_mangle]
 pub extern "C" fn llwybrenu_check_book(book: &[u8]) -> Answer
@@ -149,4 +170,13 @@ pub extern "C" fn llwybrenu_check_board(book: &[u8], board: &[u8]) -> Answer
         return of_board(board::check_board(book::kinds(book), board));
     }
     of_book(told)
+}
+
+// Translates a rule book into a rule strip: gives its length, and writes it from the start of the output.
+#[no_mangle]
+pub extern "C" fn llwybrenu_translate(book: &[u8], out: &mut [u8]) -> Answer
+    ensures { λ r. ⌜ (answerOf r ≡ shown (translateFile (now (book .entry)) (length (now (out .entry))) .answer))
+        × (now (out .exit) ≡ bytesAfter (translateFile (now (book .entry)) (length (now (out .entry)))) (now (out .entry))) ⌝ }
+{
+    of_translated(translate::translate(book, out))
 }

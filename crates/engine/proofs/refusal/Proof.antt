@@ -6,11 +6,11 @@ use Rattle.files.specs.Numbers as N
 use Rattle.engine.proofs.refusal.Statement.{statement}
 use Rattle.engine.proofs.refusal.Tie as tie
 
-place-in-32-requires : tie.Need-place-in-32-requires
-place-in-32-requires c κs = search needs
+in-32-requires : tie.Need-in-32-requires
+in-32-requires c κs = search needs
 
 returns : tie.Need-returns
 returns c = cc
 
 pub refusal-spec : {M : Type 1} → statement M
-refusal-spec = tie.close (tie.spec place-in-32-requires returns)
+refusal-spec = tie.close (tie.spec in-32-requires returns)
