@@ -23,4 +23,11 @@ llwybrenu_answer llwybrenu_check_board(const uint8_t *book, size_t book_len, con
 /* Is it a rule strip? */
 llwybrenu_answer llwybrenu_check_strip(const uint8_t *strip, size_t strip_len);
 
+/* The longest rule strip, in bytes: an output of fewer bytes is refused as SHORT, whatever the book. */
+#define LLWYBRENU_LONGEST_STRIP 44808
+
+/* Translates a rule book into a rule strip, from the start of the output. A refusal leaves every byte of the output as it was;
+   so does an acceptance past the length that it answers. */
+llwybrenu_answer llwybrenu_translate(const uint8_t *book, size_t book_len, uint8_t *out, size_t out_len);
+
 #endif

@@ -40,6 +40,7 @@ mod engine {
         pub fn llwybrenu_check_book(book: *const u8, book_len: usize) -> Answer;
         pub fn llwybrenu_check_board(book: *const u8, book_len: usize, board: *const u8, board_len: usize) -> Answer;
         pub fn llwybrenu_check_strip(strip: *const u8, strip_len: usize) -> Answer;
+        pub fn llwybrenu_translate(book: *const u8, book_len: usize, out: *mut u8, out_len: usize) -> Answer;
     }
 }
 
@@ -57,4 +58,22 @@ pub fn check_board(book: &[u8], board: &[u8]) -> Answer {
 /// Is it a rule strip?
 pub fn check_strip(strip: &[u8]) -> Answer {
     unsafe { engine::llwybrenu_check_strip(strip.as_ptr(), strip.len()) }
+}
+
+/// The longest rule strip, in bytes: an output of fewer bytes is refused as SHORT, whatever the book.
+pub const LONGEST_STRIP: usize = 44_808;
+
+/// Translates a rule book into a rule strip, from the start of the output. A refusal leaves every byte of the output as it was; so does an
+/// acceptance past the length that it answers.
+///
+/// ```
+/// let mut out = vec![7; llwybrenu::LONGEST_STRIP];
+/// let answer = llwybrenu::translate(b"en", &mut out);
+/// assert!(answer.is_accepted());
+/// assert!(llwybrenu::check_strip(&out[..answer.length as usize]).is_accepted());
+/// assert_eq!(out[answer.length as usize], 7);
+/// ```
+pub fn translate(book: &[u8], out: &mut [u8]) -> Answer {
+    // safe: as above, and the engine writes inside the output that it is lent
+    unsafe { engine::llwybrenu_translate(book.as_ptr(), book.len(), out.as_mut_ptr(), out.len()) }
 }

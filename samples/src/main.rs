@@ -5,37 +5,48 @@ use llwybrenu::Answer;
 use second::samples::calls::{call, Call, Entry};
 use std::time::Instant;
 
-/// The engine's answer to a call, or none for an entry that it doesn't have.
-fn engine(call: &Call) -> Option<Answer> {
-    match call.entry {
-        Entry::CheckBook => Some(llwybrenu::check_book(&call.source)),
-        Entry::CheckBoard => Some(llwybrenu::check_board(&call.source, &call.board)),
-        Entry::CheckStrip => Some(llwybrenu::check_strip(&call.source)),
-        Entry::RunBook | Entry::Translate | Entry::RunStrip => None,
-    }
+/// What fills an output before a call, so that a byte written where none should be shows.
+const BEFORE: u8 = 0xA5;
+
+/// The engine's answer to a call and the output after it, or none for an entry that it doesn't have.
+fn engine(call: &Call) -> Option<(Answer, Vec<u8>)> {
+    let mut out = vec![BEFORE; call.room];
+    let answer = match call.entry {
+        Entry::CheckBook => llwybrenu::check_book(&call.source),
+        Entry::CheckBoard => llwybrenu::check_board(&call.source, &call.board),
+        Entry::CheckStrip => llwybrenu::check_strip(&call.source),
+        Entry::Translate => llwybrenu::translate(&call.source, &mut out),
+        Entry::RunBook | Entry::RunStrip => return None,
+    };
+    Some((answer, out))
 }
 
-/// The second program's answer, in the engine's terms.
-fn second(call: &Call) -> Answer {
-    let answer = call.answer(&mut []);
-    Answer {
+/// The second program's answer, in the engine's terms, and the output after it.
+fn second(call: &Call) -> (Answer, Vec<u8>) {
+    let mut out = vec![BEFORE; call.room];
+    let answer = call.answer(&mut out);
+    let answer = Answer {
         number: answer.number,
         file: answer.file,
         rule: answer.rule,
         firings: answer.firings,
         place: answer.place,
         length: answer.length,
-    }
+    };
+    (answer, out)
 }
 
 fn differs(call: &Call) -> bool {
-    engine(call).is_some_and(|answer| answer != second(call))
+    engine(call).is_some_and(|after| after != second(call))
 }
 
-/// The checks that a call's files go through, whatever its entry is.
-fn checks(call: &Call) -> [Call; 3] {
-    [Entry::CheckBook, Entry::CheckBoard, Entry::CheckStrip].map(|entry| Call {
+/// The entries that a call's files go through, whatever its own is: each check without output, and a translation into one of the longest
+/// strip's length, a little more, or a byte less.
+fn entries(call: &Call, seed: u64) -> [Call; 4] {
+    let room = llwybrenu::LONGEST_STRIP + (seed % 5) as usize - 1;
+    [(Entry::CheckBook, 0), (Entry::CheckBoard, 0), (Entry::CheckStrip, 0), (Entry::Translate, room)].map(|(entry, room)| Call {
         entry,
+        room,
         ..call.clone()
     })
 }
@@ -69,15 +80,16 @@ fn main() {
     let mut compared = 0u64;
     let mut by_number = [0u64; 256];
     for seed in first..first + cases {
-        for check in checks(&call(seed)) {
-            if differs(&check) {
-                let least = smallest(check);
+        for sample in entries(&call(seed), seed) {
+            let expected = second(&sample);
+            if engine(&sample).is_some_and(|after| after != expected) {
+                let least = smallest(sample);
                 println!("seed {seed}: {:?}", least.entry);
                 println!("  book or strip {:?}\n  board {:?}", least.source, least.board);
-                println!("  engine {:?}\n  second {:?}", engine(&least), second(&least));
+                println!("  engine {:?}\n  second {:?}", engine(&least).map(|after| after.0), second(&least).0);
                 std::process::exit(1);
             }
-            by_number[second(&check).number as usize] += 1;
+            by_number[expected.0.number as usize] += 1;
             compared += 1;
         }
     }

@@ -15,9 +15,10 @@ same-length : tie.Need-same-length
 same-length c = search needs
 
 returns : tie.Need-returns
-returns c =
-    ( c .of-translated .ensures ∙ ap shown (c .before .before .before .translate .ensures .0)
-    , c .before .before .before .translate .ensures .1)
+returns c = (
+  c .of-translated .ensures ∙ ap shown (c .before .before .before .translate .ensures .0),
+  c .before .before .before .translate .ensures .1,
+)
 
 pub llwybrenu-translate-spec : {M : Type 1} → statement M
 llwybrenu-translate-spec =
