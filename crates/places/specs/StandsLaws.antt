@@ -10,10 +10,10 @@ use lib.ListN.{length, getD, List·getD-eq-default}
 use lib.Dec.{eqb, ltb}
 use borrow.Author.Tests.{ltb-true, ltb-false, lt-ltb, ne-eqb}
 use Rattle.meaning.specs.Basics.{if_then_else_}
-use Rattle.meaning.specs.Facts.{longestBook}
-use Rattle.files.specs.Marks.{isMark}
-use Rattle.files.specs.InPlace.{byteAt, termOf, termAt, testAt, comparisonOf, Read, prepend, recordsAt}
-use Rattle.places.specs.Stands.{markStands, termStands, testStands, recordsFrom}
+use Rattle.meaning.specs.Facts.{Kind, longestBook, mostInRule, mostInSweep, mostSweeps}
+use Rattle.files.specs.Marks.{isMark, RU, BA, TE, HE, SW}
+use Rattle.files.specs.InPlace.{byteAt, termOf, termAt, testAt, atomAt, groupsAt, ruleAt, comparisonOf, Read, prepend, recordsAt}
+use Rattle.places.specs.Stands.{markStands, termStands, testStands, atomEnd, recordsFrom, atomsFrom, testsFrom, groupsEnd, sweepsFrom, ruleEnd, rulesFrom}
 use Rattle.places.specs.declared.Span.{Span}
 
 -- where a mark stands, the place is within the longest book
@@ -63,3 +63,34 @@ term-is file p = refl
 pub test-is : (file : List ℕ) (p : ℕ) → p < longestBook → let t = testStands file p in
     record { comparison = comparisonOf (t .number); left = termOf (t .left .tag) (t .left .value); right = termOf (t .right .tag) (t .right .value) } ≡ testAt file p .value
 test-is file p near = rw (lt-ltb p longestBook near)
+
+-- ---- groups, sweeps and rules
+
+module _ (file : List ℕ) (kinds : List Kind) (short : length file ≤ longestBook) where
+  pub atoms-are : (mark : List ℕ) → (getD mark 0 0 ≡ 0 → ⊥) → (most p : ℕ) → atomsFrom file kinds mark most p ≡ counted 0 (recordsAt file mark (atomAt file kinds) most p)
+  unfolding atomEnd
+  atoms-are mark letter most p = from-is file mark (atomEnd file kinds) (atomAt file kinds) short letter (λ q. omega arith) most 0 p
+
+  pub tests-are : (most p : ℕ) → testsFrom file most p ≡ counted 0 (recordsAt file TE (testAt file) most p)
+  tests-are most p = from-is file TE (λ q. q + 7) (testAt file) short (λ h. omega (arith, h)) (λ q. refl) most 0 p
+
+  pub groups-end-at : (most p : ℕ) → groupsEnd file kinds most p ≡ groupsAt file kinds most p .next
+  unfolding groupsEnd groupsAt
+  groups-end-at most p =
+      let body : ℕ = recordsAt file BA (atomAt file kinds) most p .next in
+      let tested : ℕ = recordsAt file TE (testAt file) most body .next in
+      ap (λ (s : Span). atomsFrom file kinds HE most (testsFrom file most (s .next) .next) .next) (atoms-are BA (λ h. omega (arith, h)) most p)
+      ∙ ap (λ (s : Span). atomsFrom file kinds HE most (s .next) .next) (tests-are most body)
+      ∙ ap (λ (s : Span). s .next) (atoms-are HE (λ h. omega (arith, h)) most tested)
+
+  pub sweeps-are : (p : ℕ) → sweepsFrom file kinds p ≡ counted 0 (recordsAt file SW (groupsAt file kinds mostInSweep) mostSweeps p)
+  sweeps-are p = from-is file SW (groupsEnd file kinds mostInSweep) (groupsAt file kinds mostInSweep) short (λ h. omega (arith, h)) (λ q. sym (groups-end-at mostInSweep q)) mostSweeps 0 p
+
+  pub rule-end-at : (p : ℕ) → ruleEnd file kinds p ≡ ruleAt file kinds p .next
+  unfolding ruleEnd ruleAt
+  rule-end-at p =
+      ap (λ (own : ℕ). sweepsFrom file kinds own .next) (groups-end-at mostInRule p)
+      ∙ ap (λ (s : Span). s .next) (sweeps-are (groupsAt file kinds mostInRule p .next))
+
+  pub rules-are : (most p : ℕ) → rulesFrom file kinds most p ≡ counted 0 (recordsAt file RU (ruleAt file kinds) most p)
+  rules-are most p = from-is file RU (ruleEnd file kinds) (ruleAt file kinds) short (λ h. omega (arith, h)) (λ q. sym (rule-end-at q)) most 0 p
