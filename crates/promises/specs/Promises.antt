@@ -4,8 +4,8 @@
 use mathlib.Core.Path.{_≡_}
 use mathlib.Core.Logic.{_⊎_, _↔_}
 use Prim.Native.Nat.{ℕ, suc, _+_, _*_, _≤_, _<_}
-use mathlib.Core.Bool.{true, false, _||_}
-use mathlib.Core.Option.{some}
+use mathlib.Core.Bool.{Bool, true, false, _||_}
+use mathlib.Core.Option.{Option, none, some}
 use mathlib.Core.List.{List, [], _∷_, _++_, map}
 use lib.ListN.{length, drop, getElem?}
 use lib.Dec.{leb}
@@ -140,16 +140,20 @@ pub record RunsWriteBoards : Type 0 where
 
 -- ---- what fits, and in which order
 
--- values for exactly the variables of a body: a rule's own choices start with none, a sweep's with the values of the rule's body
-abbrev pub IsBound : Bindings → ℕ → Type 0
-IsBound bindings x = (v : ℕ) × (lookup x bindings ≡ some v)
+-- has the variable a value: a rule's own choices start with none, a sweep's with the values of the rule's body
+abbrev pub isSome : Option ℕ → Bool
+isSome none = false
+isSome (some v) = true
+
+abbrev pub isBound : Bindings → ℕ → Bool
+isBound bindings x = isSome (lookup x bindings)
 
 -- the program `fit` answers exactly where the choice fits in document 01's words
 pub record FitSaysFits : Type 0 where
   pub bodies : (kinds : List Kind) (rule : Rule) → GoodRule kinds rule → (rows : Choice)
       → ((k : Known) × (fit kinds (rule .body) (rule .tests) rows nothingKnown ≡ some k)) ↔ Fits kinds (rule .body) (rule .tests) rows [] noMarks
   pub sweeps : (kinds : List Kind) (body : List Atom) (sweep : Sweep) → GoodSweep kinds body sweep → (bindings : Bindings)
-      → ((x : ℕ) → occursIn x body ≡ true → IsBound bindings x) → (gone : Marks) (rows : Choice)
+      → ((x : ℕ) → isBound bindings x ≡ occursIn x body) → (gone : Marks) (rows : Choice)
       → ((k : Known) × (fit kinds (sweep .body) (sweep .tests) rows (record { bindings = bindings; gone = gone }) ≡ some k))
       ↔ Fits kinds (sweep .body) (sweep .tests) rows bindings gone
 
@@ -164,18 +168,22 @@ pub record ChoicesAreAll : Type 0 where
   pub inOrder : (kinds : List Kind) (rows : Board) (atoms : List Atom) → Ascending (choices kinds rows atoms)
 
 -- no choice of rows fits the rule
-abbrev pub NoFit : List Kind → Board → Rule → Type 0
-NoFit kinds rows rule = (c : Choice) → IsChoice kinds rows (rule .body) c → Fits kinds (rule .body) (rule .tests) c [] noMarks → ⊥
+abbrev pub NoneFits : List Kind → Board → Rule → Type 0
+NoneFits kinds rows rule = (c : Choice) → IsChoice kinds rows (rule .body) c → Fits kinds (rule .body) (rule .tests) c [] noMarks → ⊥
 
 -- "no choice of rows fits any rule"
 abbrev pub NothingFits : Book → Board → Type 0
-NothingFits b rows = (i : ℕ) (rule : Rule) → getElem? (b .rules) i ≡ some rule → NoFit (b .kinds) rows rule
+NothingFits b rows = (i : ℕ) (rule : Rule) → getElem? (b .rules) i ≡ some rule → NoneFits (b .kinds) rows rule
 
 -- ---- "works every sweep once through all its choices"
 
+-- a taken choice and the values with which it fits
 pub record Taken : Type 0 where
   pub choice : Choice
-  pub known : Known
+  pub bindings : Bindings
+
+abbrev pub choicesOf : List Taken → List Choice
+choicesOf ts = map (λ t. t .choice) ts
 
 -- the card rows that taken choices used, and the facts of their head atoms
 abbrev pub rowsUsed : List Kind → List Atom → List Taken → List ℕ
@@ -184,13 +192,13 @@ rowsUsed kinds atoms (t ∷ more) = cardRows kinds atoms (t .choice) ++ rowsUsed
 
 abbrev pub factsMade : List Atom → List Taken → List Fact
 factsMade heads [] = []
-factsMade heads (t ∷ more) = headFacts (t .known .bindings) heads ++ factsMade heads more
+factsMade heads (t ∷ more) = headFacts (t .bindings) heads ++ factsMade heads more
 
 -- each taken choice fits in its turn, with card rows unused so far; its head atoms have the values with which it fits
 pub data FitInTurn (kinds : List Kind) (sweep : Sweep) (bindings : Bindings) : Marks → List Taken → Type 0 where
-  no-more : {used : Marks} → FitInTurn kinds sweep bindings used []
+  none-taken : {used : Marks} → FitInTurn kinds sweep bindings used []
   fits-and-then : {used : Marks} {t : Taken} {more : List Taken} → Fits kinds (sweep .body) (sweep .tests) (t .choice) bindings used
-      → AtomsEqual (valuesOf (t .known .bindings)) (sweep .body) (t .choice) → Under bindings (valuesOf (t .known .bindings))
+      → AtomsEqual (valuesOf (t .bindings)) (sweep .body) (t .choice) → Under bindings (valuesOf (t .bindings))
       → FitInTurn kinds sweep bindings (λ n. used n || mem n (cardRows kinds (sweep .body) (t .choice))) more
       → FitInTurn kinds sweep bindings used (t ∷ more)
 
@@ -200,7 +208,7 @@ AllNotices kinds atoms = All (λ a. isCard kinds (a .kind) ≡ false) atoms
 pub record SweepDone (kinds : List Kind) (rows : Board) (sweep : Sweep) (bindings : Bindings) (work work′ : Work) : Type 0 where
   pub takenOnes : List Taken
   pub areChoices : All (λ t. IsChoice kinds rows (sweep .body) (t .choice)) takenOnes
-  pub inOrder : Ascending (map (λ t. t .choice) takenOnes)
+  pub inOrder : Ascending (choicesOf takenOnes)
   pub eachFits : FitInTurn kinds sweep bindings (work .used) takenOnes
   -- no card row twice, nor one used before; used afterwards are exactly these
   pub apart : Apart (rowsUsed kinds (sweep .body) takenOnes)
@@ -211,7 +219,7 @@ pub record SweepDone (kinds : List Kind) (rows : Board) (sweep : Sweep) (binding
   pub noneLeft : HasCard kinds (sweep .body) → (c : Choice) → IsChoice kinds rows (sweep .body) c → Fits kinds (sweep .body) (sweep .tests) c bindings (work′ .used) → ⊥
   -- of an all-notice body each fitting choice is taken, once
   pub allTaken : AllNotices kinds (sweep .body) → (c : Choice)
-      → (IsChoice kinds rows (sweep .body) c × Fits kinds (sweep .body) (sweep .tests) c bindings (work .used)) ↔ In c (map (λ t. t .choice) takenOnes)
+      → (IsChoice kinds rows (sweep .body) c × Fits kinds (sweep .body) (sweep .tests) c bindings (work .used)) ↔ In c (choicesOf takenOnes)
 
 -- the sweeps in file order
 pub data SweepsDone (kinds : List Kind) (rows : Board) (bindings : Bindings) : Work → List Sweep → Work → Type 0 where
@@ -239,7 +247,7 @@ pub record MeldAllows (b : Book) (rows : Board) (rule : Rule) (work : Work) (row
 pub record FirstFit (b : Book) (rows : Board) (number : ℕ) (rule : Rule) (work : Work) : Type 0 where
   -- "Among possible firings it takes the first rule's first fit in document 01's order."
   pub listed : getElem? (b .rules) number ≡ some rule
-  pub earlierRules : (j : ℕ) (other : Rule) → j < number → getElem? (b .rules) j ≡ some other → NoFit (b .kinds) rows other
+  pub earlierRules : (j : ℕ) (other : Rule) → j < number → getElem? (b .rules) j ≡ some other → NoneFits (b .kinds) rows other
   pub choice : Choice
   pub isChoice : IsChoice (b .kinds) rows (rule .body) choice
   pub fits : Fits (b .kinds) (rule .body) (rule .tests) choice [] noMarks
@@ -247,7 +255,7 @@ pub record FirstFit (b : Book) (rows : Board) (number : ℕ) (rule : Rule) (work
   -- the values of the body's variables, and of no others; and the card rows it uses
   pub known : Known
   pub values : AtomsEqual (valuesOf (known .bindings)) (rule .body) choice
-  pub bound : (x : ℕ) → IsBound (known .bindings) x ↔ (occursIn x (rule .body) ≡ true)
+  pub bound : (x : ℕ) → isBound (known .bindings) x ≡ occursIn x (rule .body)
   pub used : (n : ℕ) → known .gone n ≡ mem n (cardRows (b .kinds) (rule .body) choice)
   -- its sweeps, under those values, from those rows
   pub swept : SweepsDone (b .kinds) rows (known .bindings) (bodyWork rule known) (rule .sweeps) work
@@ -337,6 +345,7 @@ pub record TakesTooMany (b : Book) (bookFile boardFile : List ℕ) (limit allowa
   pub last : ℕ
   pub reached : runBookFile bookFile boardFile completed room
       ≡ record { answer = endAnswer Limit (length (encodeBoard rows)) completed last; written = encodeBoard rows }
+  pub isBoard : judgeBoard (b .kinds) (encodeBoard rows) ≡ accepted rows
   pub steps : ℕ
   pub takes : TakesSteps b rows steps
   pub tooMany : allowance < steps

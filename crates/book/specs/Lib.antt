@@ -1,0 +1,4 @@
+pub mod Told
+pub mod Sets
+pub mod Reads
+pub mod Holds

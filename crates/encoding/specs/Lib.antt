@@ -1,0 +1,9 @@
+pub mod Bytes
+pub mod Judging
+pub mod Records
+pub mod Written
+pub mod Boards
+pub mod Word
+pub mod StripWords
+pub mod Strips
+pub mod Steps

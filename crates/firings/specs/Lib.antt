@@ -1,0 +1,15 @@
+pub mod Basics
+pub mod CardRows
+pub mod Answers
+pub mod Fitting
+pub mod Choosing
+pub mod Sweeping
+pub mod Sweeps
+pub mod Counting
+pub mod Variables
+pub mod Allowed
+pub mod Firings
+pub mod Quiet
+pub mod Runs
+pub mod Keeping
+pub mod Exactly

@@ -1,0 +1,5 @@
+pub mod Places
+pub mod StripBoards
+pub mod DemandOneKept
+pub mod DemandTwoKept
+pub mod DemandThreeKept

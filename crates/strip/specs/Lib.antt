@@ -1,0 +1,4 @@
+pub mod Told
+pub mod ToldLaws
+pub mod Leading
+pub mod LeadingLaws
