@@ -1,8 +1,9 @@
 -- The board that two arrays hold: a kind byte a row, and four numbers a row, row r at 4r to 4r + 3. Cards are rows 0 to 255, notices rows 256
 -- to 383. Every read is total: 0 past an array's end.
 use Prim.Native.Nat.{ℕ, zero, suc, _+_, _*_}
+use mathlib.Core.Path.{_≡_}
 use mathlib.Core.List.{List, [], _∷_}
-use lib.ListN.{getD, take, set}
+use lib.ListN.{length, getD, take, set}
 use Rattle.meaning.specs.Facts.{Kind, Fact, Board, arityOf}
 
 -- ---- sizes of the arrays
@@ -16,6 +17,11 @@ numberCount = 1536
 -- the row of the first notice
 abbrev pub noticesFrom : ℕ
 noticesFrom = 256
+
+-- what every pair of arrays in the code is
+pub record Sized (kind numbers : List ℕ) : Type 0 where
+  pub rows : length kind ≡ rowCount
+  pub places : length numbers ≡ numberCount
 
 -- ---- reading
 

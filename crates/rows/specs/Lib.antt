@@ -1,1 +1,8 @@
 pub mod Held
+pub mod HeldLaws
+pub mod Loads
+pub mod LoadsLaws
+pub mod Settles
+pub mod SettlesLaws
+pub mod Writes
+pub mod WritesLaws
