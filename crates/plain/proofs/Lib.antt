@@ -1,1 +1,10 @@
 pub mod RowLaws
+pub mod FitLaws
+pub mod RowFit
+pub mod TestLaws
+pub mod ListLaws
+pub mod LoopLaws
+pub mod Going
+pub mod HomeLaws
+pub mod MakeLaws
+pub mod ListsLaws

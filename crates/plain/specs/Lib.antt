@@ -2,3 +2,5 @@ pub mod Search
 pub mod SearchLaws
 pub mod Represents
 pub mod Decoded
+pub mod Stands
+pub mod Prepare

@@ -1,2 +1,5 @@
 // The plain runner of a rule book.
+mod homes;
+mod lists;
 mod search;
+mod tests;
