@@ -8,3 +8,6 @@ pub mod Going
 pub mod HomeLaws
 pub mod MakeLaws
 pub mod ListsLaws
+pub mod MakingLaws
+pub mod SweepLaws
+pub mod SweepGoing

@@ -4,3 +4,5 @@ pub mod Represents
 pub mod Decoded
 pub mod Stands
 pub mod Prepare
+pub mod Making
+pub mod Sweeping
