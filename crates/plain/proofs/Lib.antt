@@ -11,3 +11,6 @@ pub mod ListsLaws
 pub mod MakingLaws
 pub mod SweepLaws
 pub mod SweepGoing
+pub mod GroupLaws
+pub mod LookLaws
+pub mod SweepsLaws

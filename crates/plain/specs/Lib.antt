@@ -6,3 +6,7 @@ pub mod Stands
 pub mod Prepare
 pub mod Making
 pub mod Sweeping
+pub mod Look
+pub mod OneSweep
+pub mod Playing
+pub mod PlayingLaws

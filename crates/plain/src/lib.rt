@@ -2,5 +2,6 @@
 mod firing;
 mod homes;
 mod lists;
+mod look;
 mod search;
 mod tests;
