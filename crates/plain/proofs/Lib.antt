@@ -8,5 +8,9 @@ pub mod Going
 pub mod HomeLaws
 pub mod MakeLaws
 pub mod ListsLaws
+pub mod MakingLaws
+pub mod SweepLaws
+pub mod SweepGoing
 pub mod GroupLaws
 pub mod LookLaws
+pub mod SweepsLaws

@@ -1,4 +1,5 @@
 // The plain runner of a rule book.
+mod firing;
 mod homes;
 mod lists;
 mod look;
