@@ -14,3 +14,6 @@ pub mod SweepGoing
 pub mod GroupLaws
 pub mod LookLaws
 pub mod SweepsLaws
+pub mod WalkLaws
+pub mod RunLaws
+pub mod EntryLaws

@@ -9,4 +9,6 @@ pub mod Sweeping
 pub mod Look
 pub mod OneSweep
 pub mod Playing
-pub mod PlayingLaws
+pub mod Runs
+pub mod RunsLaws
+pub mod Walks

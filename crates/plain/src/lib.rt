@@ -3,5 +3,7 @@ mod firing;
 mod homes;
 mod lists;
 mod look;
+mod places;
+pub mod run;
 mod search;
 mod tests;
