@@ -14,3 +14,4 @@ pub mod SweepGoing
 pub mod GroupLaws
 pub mod LookLaws
 pub mod SweepsLaws
+pub mod AllSweepsLaws

@@ -10,3 +10,4 @@ pub mod Look
 pub mod OneSweep
 pub mod Playing
 pub mod PlayingLaws
+pub mod AllSweeps
