@@ -17,3 +17,4 @@ pub mod SweepsLaws
 pub mod WalkLaws
 pub mod RunLaws
 pub mod EntryLaws
+pub mod AllSweepsLaws

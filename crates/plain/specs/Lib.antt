@@ -12,3 +12,4 @@ pub mod Playing
 pub mod Runs
 pub mod RunsLaws
 pub mod Walks
+pub mod AllSweeps
