@@ -37,7 +37,7 @@ use Rattle.plain.specs.declared.firing.Rules.{Rules}
 use Rattle.plain.specs.declared.run.Ran as R
 use Rattle.plain.specs.declared.run.Ended.{Ended}
 use Rattle.plain.specs.declared.run.BookRan.the-variants as A
-use Rattle.plain.specs.Playing.{RulesPlaced, boardIn, Playable}
+use Rattle.plain.specs.Plays.{RulesPlaced, boardIn, Playable}
 use Rattle.plain.specs.Runs.{endOf, ranIn, RunEnds, Ready, isNothing, checkAnswer, endedAnswer, bookAnswer, Gives}
 
 -- ---- loading, running, writing

@@ -15,7 +15,7 @@ use Rattle.plain.specs.declared.firing.Rules.{Rules}
 use Rattle.plain.specs.declared.firing.Look.{Look}
 use Rattle.plain.specs.declared.firing.Look.the-variants as L
 use Rattle.plain.specs.declared.run.End.the-variants as E
-use Rattle.plain.specs.Playing.{boardIn, Playable, firingOf, countAfter, Stays, Looked}
+use Rattle.plain.specs.Plays.{boardIn, Playable, firingOf, countAfter, Stays, Looked}
 use Rattle.plain.specs.Runs.{RunEnds}
 
 -- ---- a run, one firing at a time

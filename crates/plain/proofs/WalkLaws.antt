@@ -16,7 +16,7 @@ use Rattle.meaning.specs.Rules.{Rule}
 use Rattle.firings.specs.Basics.{cases}
 use Rattle.files.specs.Marks.{KD, RU, BA, TE, HE, SW, isMark}
 use Rattle.files.specs.InPlace.{Read, byteAt, prepend, recordsAt, kindAt, testAt, atomAt, groupsAt, ruleAt, kindsAt, bookAt}
-use Rattle.plain.specs.Playing.{rulesFrom, RulesPlaced}
+use Rattle.plain.specs.Plays.{rulesFrom, RulesPlaced}
 use Rattle.plain.specs.Walks.{farthest, Walkable, Walked, pastRecords}
 
 abbrev markAt : List ℕ → List ℕ → ℕ → Bool

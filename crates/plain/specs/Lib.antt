@@ -8,7 +8,7 @@ pub mod Making
 pub mod Sweeping
 pub mod Look
 pub mod OneSweep
-pub mod Playing
+pub mod Plays
 pub mod Runs
 pub mod RunsLaws
 pub mod Walks

@@ -10,7 +10,7 @@ ghost use Rattle.meaning.specs.Facts.{mostInSweep, mostSweeps, longestBook};
 ghost use Rattle.files.specs.Marks.{SW, isMark};
 ghost use Rattle.files.specs.InPlace.{byteAt, atomAt, groupsAt, ruleAt, kindsAt};
 ghost use Rattle.kinds.specs.Listed.{kindsOf};
-ghost use Rattle.plain.specs.Playing.{RulesPlaced};
+ghost use Rattle.plain.specs.Plays.{RulesPlaced};
 ghost use Rattle.plain.specs.Walks.{farthest, Walkable, Walked, pastRecords};
 
 // A byte as a size.
