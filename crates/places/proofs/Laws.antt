@@ -7,11 +7,13 @@ use mathlib.Core.List.{List}
 use lib.ListN.{length, getD, List·getD-eq-default}
 use lib.Dec.{eqb}
 use borrow.Author.Tests.{le-ltb, lt-ltb, eq-eqb, ne-eqb, not-true, not-false}
-use Rattle.meaning.specs.Facts.{Kind, longestBook, arityOf}
+use Rattle.meaning.specs.Facts.{Kind, longestBook, mostInRule, arityOf}
+use Rattle.files.specs.Marks.{BA, HE}
 use Rattle.files.specs.InPlace.{byteAt, twoAt}
-use Rattle.places.specs.Stands.{markStands, termStands, zeroTerm, testStands, atomSize, recordsFrom}
+use Rattle.places.specs.Stands.{markStands, termStands, zeroTerm, testStands, atomSize, atomEnd, recordsFrom, atomsFrom, testsFrom, groupsEnd, sweepsFrom, ruleEnd}
 use Rattle.places.specs.StandsLaws.{stands-near}
 use Rattle.places.specs.declared.Term.{Term}
+use Rattle.places.specs.declared.Span.{Span}
 
 -- ---- marks
 
@@ -48,8 +50,8 @@ size-is file kinds p kind arity wide k a w = (ap (λ (n : ℕ). 1 + 3 * n) (w .0
 
 -- ---- the loops
 
-module _ (file mark : List ℕ) (size : ℕ → ℕ) where
-  stop-here : (left n p : ℕ) → markStands file mark p ≡ false → record { count = n; next = p } ≡ recordsFrom file mark size left n p
+module _ (file mark : List ℕ) (after : ℕ → ℕ) where
+  stop-here : (left n p : ℕ) → markStands file mark p ≡ false → record { count = n; next = p } ≡ recordsFrom file mark after left n p
   unfolding recordsFrom
   stop-here zero n p h = refl
   stop-here (suc left) n p h = rw h
@@ -57,34 +59,34 @@ module _ (file mark : List ℕ) (size : ℕ → ℕ) where
   -- so many of the most are counted, and the rest counts from here
   pub record Counts (most at count next : ℕ) : Type 0 where
     pub within : count ≤ most
-    pub rest : recordsFrom file mark size (most - count) count next ≡ recordsFrom file mark size most 0 at
+    pub rest : recordsFrom file mark after (most - count) count next ≡ recordsFrom file mark after most 0 at
 
   pub count-starts : (most at : ℕ) → Counts most at 0 at
-  count-starts most at = record { within = omega arith; rest = ap (λ (left : ℕ). recordsFrom file mark size left 0 at) (omega arith) }
+  count-starts most at = record { within = omega arith; rest = ap (λ (left : ℕ). recordsFrom file mark after left 0 at) (omega arith) }
 
   module _ (most at count next : ℕ) (c : Counts most at count next) where
-    pub count-stops : (t : Bool) → t ≡ markStands file mark next → not t ≡ true → record { count = count; next = next } ≡ recordsFrom file mark size most 0 at
+    pub count-stops : (t : Bool) → t ≡ markStands file mark next → not t ≡ true → record { count = count; next = next } ≡ recordsFrom file mark after most 0 at
     count-stops t e h = stop-here (most - count) count next (sym e ∙ not-true t h) ∙ c .rest
 
-    pub count-ends : most ≤ count → record { count = count; next = next } ≡ recordsFrom file mark size most 0 at
+    pub count-ends : most ≤ count → record { count = count; next = next } ≡ recordsFrom file mark after most 0 at
     unfolding recordsFrom
     count-ends h =
         let none : most - count ≡ 0 = omega (arith, c .within) in
-        sym (ap (λ (left : ℕ). recordsFrom file mark size left count next) none) ∙ c .rest
+        sym (ap (λ (left : ℕ). recordsFrom file mark after left count next) none) ∙ c .rest
 
     pub count-near : (t : Bool) → t ≡ markStands file mark next → not t ≡ false → next < longestBook
     count-near t e h = stands-near file mark next (sym e ∙ not-false t h)
 
-    pub count-goes : count < most → (t : Bool) → t ≡ markStands file mark next → not t ≡ false → (s : ℕ) → s ≡ size (next + 2)
-        → Counts most at (count + 1) (next + 2 + s)
+    pub count-goes : count < most → (t : Bool) → t ≡ markStands file mark next → not t ≡ false → (s : ℕ) → s ≡ after (next + 2)
+        → Counts most at (count + 1) s
     unfolding recordsFrom
     count-goes l t e h s q = record {
       within = omega arith;
       rest = by (most - count) (omega arith) (c .rest);
     }
       where
-        by : (left : ℕ) → left ≡ suc (most - (count + 1)) → recordsFrom file mark size left count next ≡ recordsFrom file mark size most 0 at
-            → recordsFrom file mark size (most - (count + 1)) (count + 1) (next + 2 + s) ≡ recordsFrom file mark size most 0 at
+        by : (left : ℕ) → left ≡ suc (most - (count + 1)) → recordsFrom file mark after left count next ≡ recordsFrom file mark after most 0 at
+            → recordsFrom file mark after (most - (count + 1)) (count + 1) s ≡ recordsFrom file mark after most 0 at
         by zero z r = let bad : ⊥ = omega arith in absurd bad
         by (suc left) z r =
             let same : most - (count + 1) ≡ left = omega arith in
@@ -92,7 +94,26 @@ module _ (file mark : List ℕ) (size : ℕ → ℕ) where
             rw (same, one, q) (rw (sym e ∙ not-false t h) at r)
 
 -- a test's record has nine bytes
-pub tests-go : (file mark : List ℕ) (most at count next : ℕ) → Counts file mark (λ q. 7) most at count next → count < most
-    → (t : Bool) → t ≡ markStands file mark next → not t ≡ false → Counts file mark (λ q. 7) most at (count + 1) (next + 9)
-tests-go file mark most at count next c l t e h =
-    subst (Counts file mark (λ q. 7) most at (count + 1)) (omega arith) (count-goes file mark (λ q. 7) most at count next c l t e h 7 refl)
+pub tests-go : (file mark : List ℕ) (most at count next : ℕ) → Counts file mark (λ q. q + 7) most at count next → count < most
+    → (t : Bool) → t ≡ markStands file mark next → not t ≡ false → Counts file mark (λ q. q + 7) most at (count + 1) (next + 9)
+tests-go file mark most at count next c l t e h = count-goes file mark (λ q. q + 7) most at count next c l t e h (next + 9) (omega arith)
+
+-- an atom's ends its size after its mark
+pub atoms-go : (file mark : List ℕ) (kinds : List Kind) (most at count next : ℕ) → Counts file mark (atomEnd file kinds) most at count next → count < most
+    → (t : Bool) → t ≡ markStands file mark next → not t ≡ false → (s : ℕ) → s ≡ atomSize file kinds (next + 2)
+    → Counts file mark (atomEnd file kinds) most at (count + 1) (next + 2 + s)
+unfolding atomEnd
+atoms-go file mark kinds most at count next c l t e h s q =
+    count-goes file mark (atomEnd file kinds) most at count next c l t e h (next + 2 + s) (ap (λ (n : ℕ). next + 2 + n) q)
+
+-- ---- groups and rules
+
+module _ (file : List ℕ) (kinds : List Kind) where
+  pub groups-end-is : (most at : ℕ) (body tested heads : Span) → body ≡ atomsFrom file kinds BA most at → tested ≡ testsFrom file most (body .next)
+      → heads ≡ atomsFrom file kinds HE most (tested .next) → heads .next ≡ groupsEnd file kinds most at
+  unfolding groupsEnd
+  groups-end-is most at body tested heads b t h = rw (h, t, b)
+
+  pub rule-end-is : (at own : ℕ) (swept : Span) → own ≡ groupsEnd file kinds mostInRule at → swept ≡ sweepsFrom file kinds own → swept .next ≡ ruleEnd file kinds at
+  unfolding ruleEnd
+  rule-end-is at own swept o s = rw (s, o)

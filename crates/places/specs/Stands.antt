@@ -5,8 +5,8 @@ use mathlib.Core.Bool.{Bool, _&&_}
 use mathlib.Core.List.{List}
 use lib.Dec.{ltb}
 use Rattle.meaning.specs.Basics.{if_then_else_}
-use Rattle.meaning.specs.Facts.{Kind, longestBook, arityOf}
-use Rattle.files.specs.Marks.{isMark, TE}
+use Rattle.meaning.specs.Facts.{Kind, longestBook, mostInRule, mostInSweep, mostSweeps, arityOf}
+use Rattle.files.specs.Marks.{isMark, RU, BA, TE, HE, SW}
 use Rattle.files.specs.InPlace.{byteAt, twoAt}
 use Rattle.places.specs.declared.Term.{Term}
 use Rattle.places.specs.declared.Test.{Test}
@@ -32,15 +32,35 @@ testStands file p =
 abbrev pub atomSize : List ℕ → List Kind → ℕ → ℕ
 atomSize file kinds p = 1 + 3 * arityOf kinds (byteAt file p)
 
--- so many records with the mark, from a place on, by the size of what follows each mark; so many are counted already
+-- the place after the atom
+unfoldable pub atomEnd : List ℕ → List Kind → ℕ → ℕ
+atomEnd file kinds p = p + atomSize file kinds p
+
+-- so many records with the mark, from a place on, by the place after what follows each mark; so many are counted already
 unfoldable pub recordsFrom : List ℕ → List ℕ → (ℕ → ℕ) → ℕ → ℕ → ℕ → Span
-recordsFrom file mark size zero n p = record { count = n; next = p }
-recordsFrom file mark size (suc left) n p =
-    let more = recordsFrom file mark size left (suc n) (p + 2 + size (p + 2)) in
+recordsFrom file mark after zero n p = record { count = n; next = p }
+recordsFrom file mark after (suc left) n p =
+    let more = recordsFrom file mark after left (suc n) (after (p + 2)) in
     if markStands file mark p then more else record { count = n; next = p }
 
-abbrev pub atomsFrom : List ℕ → List Kind → List ℕ → ℕ → ℕ → Span
-atomsFrom file kinds mark most p = recordsFrom file mark (atomSize file kinds) most 0 p
+module _ (file : List ℕ) where
+  abbrev pub testsFrom : ℕ → ℕ → Span
+  testsFrom most p = recordsFrom file TE (λ q. q + 7) most 0 p
 
-abbrev pub testsFrom : List ℕ → ℕ → ℕ → Span
-testsFrom file most p = recordsFrom file TE (λ q. 7) most 0 p
+  module _ (kinds : List Kind) where
+    abbrev pub atomsFrom : List ℕ → ℕ → ℕ → Span
+    atomsFrom mark most p = recordsFrom file mark (atomEnd file kinds) most 0 p
+
+    -- the place after a body, its tests and its heads, at most so many of each
+    unfoldable pub groupsEnd : ℕ → ℕ → ℕ
+    groupsEnd most p = atomsFrom HE most (testsFrom most (atomsFrom BA most p .next) .next) .next
+
+    abbrev pub sweepsFrom : ℕ → Span
+    sweepsFrom p = recordsFrom file SW (groupsEnd mostInSweep) mostSweeps 0 p
+
+    -- the place after a rule, whose body stands at the place given
+    unfoldable pub ruleEnd : ℕ → ℕ
+    ruleEnd p = sweepsFrom (groupsEnd mostInRule p) .next
+
+    abbrev pub rulesFrom : ℕ → ℕ → Span
+    rulesFrom most p = recordsFrom file RU ruleEnd most 0 p

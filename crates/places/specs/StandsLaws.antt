@@ -39,19 +39,19 @@ stands-is file mark p short letter = by (ltb p longestBook) refl
 abbrev pub counted : {A : Type 0} → ℕ → Read (List A) → Span
 counted n read = record { count = n + length (read .value); next = read .next }
 
--- "so many records, and the place after them" are those that InPlace reads, where an item ends its size after its mark
-pub from-is : {A : Type 0} (file mark : List ℕ) (size : ℕ → ℕ) (item : ℕ → Read A) → length file ≤ longestBook → (getD mark 0 0 ≡ 0 → ⊥)
-    → ((p : ℕ) → item p .next ≡ p + size p) → (left n p : ℕ) → recordsFrom file mark size left n p ≡ counted n (recordsAt file mark item left p)
+-- "so many records, and the place after them" are those that InPlace reads, by the place after an item
+pub from-is : {A : Type 0} (file mark : List ℕ) (after : ℕ → ℕ) (item : ℕ → Read A) → length file ≤ longestBook → (getD mark 0 0 ≡ 0 → ⊥)
+    → ((p : ℕ) → item p .next ≡ after p) → (left n p : ℕ) → recordsFrom file mark after left n p ≡ counted n (recordsAt file mark item left p)
 unfolding recordsFrom recordsAt
-from-is file mark size item short letter ends zero n p = ap (λ (k : ℕ). record { count = k; next = p }) (sym (add-zero n))
-from-is {A} file mark size item short letter ends (suc left) n p =
-    ap (λ (t : Bool). if t then recordsFrom file mark size left (suc n) (p + 2 + size (p + 2)) else record { count = n; next = p }) (stands-is file mark p short letter)
+from-is file mark after item short letter ends zero n p = ap (λ (k : ℕ). record { count = k; next = p }) (sym (add-zero n))
+from-is {A} file mark after item short letter ends (suc left) n p =
+    ap (λ (t : Bool). if t then recordsFrom file mark after left (suc n) (after (p + 2)) else record { count = n; next = p }) (stands-is file mark p short letter)
     ∙ by (isMark mark (byteAt file p) (byteAt file (p + 1))) (prepend (item (p + 2) .value) (recordsAt file mark item left (item (p + 2) .next)))
-    (ap (recordsFrom file mark size left (suc n)) (sym (ends (p + 2))) ∙ from-is file mark size item short letter ends left (suc n) (item (p + 2) .next)
+    (ap (recordsFrom file mark after left (suc n)) (sym (ends (p + 2))) ∙ from-is file mark after item short letter ends left (suc n) (item (p + 2) .next)
     ∙ ap (λ (k : ℕ). record { count = k; next = recordsAt file mark item left (item (p + 2) .next) .next }) (omega arith))
   where
-    by : (t : Bool) (read : Read (List A)) → recordsFrom file mark size left (suc n) (p + 2 + size (p + 2)) ≡ counted n read
-        → (if t then recordsFrom file mark size left (suc n) (p + 2 + size (p + 2)) else record { count = n; next = p })
+    by : (t : Bool) (read : Read (List A)) → recordsFrom file mark after left (suc n) (after (p + 2)) ≡ counted n read
+        → (if t then recordsFrom file mark after left (suc n) (after (p + 2)) else record { count = n; next = p })
         ≡ counted n (if t then read else record { value = []; next = p })
     by true read h = h
     by false read h = ap (λ (k : ℕ). record { count = k; next = p }) (sym (add-zero n))

@@ -7,7 +7,7 @@ ghost use mathlib.Core.Path.{_≡_};
 ghost use Prim.Native.Nat.{ℕ, _+_, _*_, _≤_, _<_};
 ghost use lib.ListN.{length};
 ghost use Rattle.kinds.specs.Listed.{kindsOf};
-ghost use Rattle.places.specs.Stands.{markStands, termStands, testStands, atomSize, atomsFrom, testsFrom};
+ghost use Rattle.places.specs.Stands.{markStands, termStands, testStands, atomSize, atomsFrom, testsFrom, groupsEnd, sweepsFrom, ruleEnd, rulesFrom};
 
 // A term: its tag (0 constant, 1 variable) and its value.
 pub struct Term {
@@ -112,6 +112,57 @@ pub fn tests(book: &[u8], most: usize, at: usize) -> Span
             return Span { count, next };
         }
         next = next + 9;
+        count += 1;
+    }
+    Span { count, next }
+}
+
+// The place after a body, its tests and its heads, at most so many of each, from a place on.
+pub fn groups_end(book: &[u8], kinds: Kinds, most: usize, at: usize) -> usize
+    ensures { λ r. ⌜ r ≡ groupsEnd (now (book .entry)) (kindsOf kinds) most at ⌝ }
+{
+    let body = atoms(book, kinds, &Book::BA, most, at);
+    let tested = tests(book, most, body.next);
+    let heads = atoms(book, kinds, &Book::HE, most, tested.next);
+    heads.next
+}
+
+// The sweeps of a rule, from the place after its heads on.
+pub fn sweeps(book: &[u8], kinds: Kinds, at: usize) -> Span
+    ensures { λ r. ⌜ r ≡ sweepsFrom (now (book .entry)) (kindsOf kinds) at ⌝ }
+{
+    let mut count = 0;
+    let mut next = at;
+    while count < Book::SWEEPS {
+        if !is_marked(book, next, &Book::SW) {
+            return Span { count, next };
+        }
+        next = groups_end(book, kinds, Book::IN_SWEEP, next + 2);
+        count += 1;
+    }
+    Span { count, next }
+}
+
+// The place after a rule whose body stands at the place.
+pub fn rule_end(book: &[u8], kinds: Kinds, at: usize) -> usize
+    ensures { λ r. ⌜ r ≡ ruleEnd (now (book .entry)) (kindsOf kinds) at ⌝ }
+{
+    let own = groups_end(book, kinds, Book::IN_RULE, at);
+    let swept = sweeps(book, kinds, own);
+    swept.next
+}
+
+// The rules, at most so many, from a place on.
+pub fn rules(book: &[u8], kinds: Kinds, most: usize, at: usize) -> Span
+    ensures { λ r. ⌜ r ≡ rulesFrom (now (book .entry)) (kindsOf kinds) most at ⌝ }
+{
+    let mut count = 0;
+    let mut next = at;
+    while count < most {
+        if !is_marked(book, next, &Book::RU) {
+            return Span { count, next };
+        }
+        next = rule_end(book, kinds, next + 2);
         count += 1;
     }
     Span { count, next }

@@ -4,13 +4,13 @@ use Prim.Native.Nat.{_-_, _<_}
 use native.Mathlib.Omega.{arith}
 use Rattle.meaning.specs.Facts.{longestBook}
 use Rattle.kinds.specs.Listed.{kindsOf}
-use Rattle.places.specs.Stands.{atomSize}
-use Rattle.places.proofs.Laws.{Counts, count-starts, count-stops, count-ends, count-near, count-goes}
+use Rattle.places.specs.Stands.{atomEnd}
+use Rattle.places.proofs.Laws.{Counts, count-starts, count-stops, count-ends, count-near, atoms-go}
 use Rattle.places.proofs.atoms.Statement.{statement}
 use Rattle.places.proofs.atoms.Tie as tie
 
 abbrev Inv-loop : tie.InvT-loop
-Inv-loop book kinds mark most at count₀ next₀ count next = Counts book mark (atomSize book (kindsOf kinds)) most at count next
+Inv-loop book kinds mark most at count₀ next₀ count next = Counts book mark (atomEnd book (kindsOf kinds)) most at count next
 
 abbrev μ-loop : tie.MeasureT-loop
 μ-loop book kinds mark most at count₀ next₀ count next = most - count
@@ -43,7 +43,7 @@ loop-less : tie.Need-loop-less Inv-loop μ-loop
 loop-less c = search needs
 
 loop-again : tie.Need-loop-again Inv-loop μ-loop
-loop-again c = search count-goes
+loop-again c = search atoms-go
 
 returns-2 : tie.Need-returns-2 Inv-loop μ-loop
 returns-2 c = search count-ends

@@ -1,6 +1,6 @@
 -- `tests` counts records: what is counted and what is left make the whole.
 use borrow.Author.Needs.{needs}
-use Prim.Native.Nat.{_-_, _<_}
+use Prim.Native.Nat.{_+_, _-_, _<_}
 use native.Mathlib.Omega.{arith}
 use Rattle.meaning.specs.Facts.{longestBook}
 use Rattle.files.specs.Marks.{TE}
@@ -9,7 +9,7 @@ use Rattle.places.proofs.tests.Statement.{statement}
 use Rattle.places.proofs.tests.Tie as tie
 
 abbrev Inv-loop : tie.InvT-loop
-Inv-loop book most at count₀ next₀ t6 count next = Counts book TE (λ q. 7) most at count next
+Inv-loop book most at count₀ next₀ t6 count next = Counts book TE (λ q. q + 7) most at count next
 
 abbrev μ-loop : tie.MeasureT-loop
 μ-loop book most at count₀ next₀ t6 count next = most - count
