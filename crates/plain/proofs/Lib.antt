@@ -15,3 +15,6 @@ pub mod GroupLaws
 pub mod LookLaws
 pub mod SweepsLaws
 pub mod AllSweepsLaws
+pub mod FireLaws
+pub mod RuleLaws
+pub mod PlayLaws

@@ -11,3 +11,4 @@ pub mod OneSweep
 pub mod Playing
 pub mod PlayingLaws
 pub mod AllSweeps
+pub mod FireRule
