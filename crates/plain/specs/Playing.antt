@@ -5,7 +5,6 @@ use mathlib.Core.List.{List, [], _∷_}
 use lib.ListN.{length}
 use Rattle.meaning.specs.Basics.{if_then_else_}
 use Rattle.meaning.specs.Facts.{Kind, Board, mostRules, mostCards, mostNotices, longestBook}
-use Rattle.meaning.specs.Rules.{Book}
 use Rattle.meaning.specs.Firing.{quiet, full, fired, fire}
 use Rattle.meaning.specs.WellFormed.{GoodBook, GoodBoard}
 use Rattle.files.specs.Marks.{RU, isMark}
