@@ -18,3 +18,6 @@ pub mod WalkLaws
 pub mod RunLaws
 pub mod EntryLaws
 pub mod AllSweepsLaws
+pub mod FireLaws
+pub mod RuleLaws
+pub mod PlayLaws
