@@ -8,5 +8,16 @@ pub mod Going
 pub mod HomeLaws
 pub mod MakeLaws
 pub mod ListsLaws
+pub mod MakingLaws
+pub mod SweepLaws
+pub mod SweepGoing
 pub mod GroupLaws
 pub mod LookLaws
+pub mod SweepsLaws
+pub mod WalkLaws
+pub mod RunLaws
+pub mod EntryLaws
+pub mod AllSweepsLaws
+pub mod FireLaws
+pub mod RuleLaws
+pub mod PlayLaws

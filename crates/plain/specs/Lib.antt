@@ -4,4 +4,15 @@ pub mod Represents
 pub mod Decoded
 pub mod Stands
 pub mod Prepare
+pub mod Making
+pub mod Sweeping
 pub mod Look
+pub mod OneSweep
+pub mod Playing
+pub mod PlayingLaws
+pub mod Plays
+pub mod Runs
+pub mod RunsLaws
+pub mod Walks
+pub mod AllSweeps
+pub mod FireRule
