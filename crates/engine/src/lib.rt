@@ -1,4 +1,4 @@
-// The engine for other languages: document 01's answers behind six functions of C. Every function takes any bytes.
+// The engine for other languages: document 01's answers behind functions of C, the three checks and the translation. Every function takes any bytes.
 use board::BoardChecked;
 use book::BookChecked;
 use strip::StripChecked;
