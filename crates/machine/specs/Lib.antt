@@ -2,3 +2,4 @@ pub mod Places
 pub mod Represents
 pub mod Effects
 pub mod Bursts
+pub mod Firings
