@@ -7,13 +7,13 @@ ghost use mathlib.Core.Path.{_≡_};
 ghost use Prim.Native.Nat.{ℕ, _<_};
 ghost use Rattle.files.specs.Numbers as N;
 ghost use Rattle.files.specs.Numbers.{book, strip, board};
-ghost use Rattle.files.specs.Entries.{bytesAfter, checkBook, checkBoard, checkStrip, translateFile};
+ghost use Rattle.files.specs.Entries.{bytesAfter, toldAnswer, checkBook, checkBoard, checkStrip, translateFile};
 ghost use Rattle.translate.specs.Answers.{translatedAnswer};
 ghost use lib.ListN.{length};
 ghost use Rattle.book.specs.Told.{bookTold};
 ghost use Rattle.board.specs.Told.{boardTold};
 ghost use Rattle.strip.specs.Told.{stripTold};
-ghost use Rattle.engine.specs.Shown.{answerOf, shown, toldAnswer, refusedBy, atMostPlace, isNone};
+ghost use Rattle.engine.specs.Shown.{answerOf, shown, refusedBy, atMostPlace};
 
 // What every entry answers: document 01's number, the file it is about (0 none, 1 book, 2 strip, 3 board, 4 output), the last fired rule, the
 // firings done, the place in the file, the bytes written.
@@ -142,31 +142,13 @@ pub extern "C" fn llwybrenu_check_strip(strip: &[u8]) -> Answer
     of_strip(strip::check_strip(strip))
 }
 
-// Does the check accept the book?
-fn accepts(told: BookChecked) -> bool
-    ensures { λ r. ⌜ r ≡ isNone (bookTold told) ⌝ }
-{
-    match told {
-        BookChecked::Accepted => true,
-        BookChecked::Cut(_) => false,
-        BookChecked::Mark(_) => false,
-        BookChecked::Place(_) => false,
-        BookChecked::Nocard(_) => false,
-        BookChecked::Bare(_) => false,
-        BookChecked::Many(_) => false,
-        BookChecked::Field(_) => false,
-        BookChecked::Loose(_) => false,
-        BookChecked::Trail(_) => false,
-    }
-}
-
 // Is the second file a board of the book that the first one is?
 #[no_mangle]
 pub extern "C" fn llwybrenu_check_board(book: &[u8], board: &[u8]) -> Answer
     ensures { λ r. ⌜ answerOf r ≡ shown (checkBoard (now (book .entry)) (now (board .entry)) .answer) ⌝ }
 {
     let told = book::check_book(book);
-    if accepts(told) {
+    if book::is_accepted(told) {
         return of_board(board::check_board(book::kinds(book), board));
     }
     of_book(told)

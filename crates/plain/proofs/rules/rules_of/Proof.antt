@@ -1,11 +1,11 @@
--- `rules`: the rules whose places are found, and those from here on, are all rules. The measure: how many may come.
+-- `rules_of`: the places found so far, and those from here on, are all the rules' places. The measure: how many may come.
 use borrow.Author.Needs.{needs}
-use Rattle.plain.proofs.WalkLaws.{Placing, place-start, place-end, place-whole, place-on, place-fits, place-next}
 use Prim.Native.Nat.{_-_}
 use Rattle.meaning.specs.Facts.{mostRules}
 use Rattle.kinds.specs.Listed.{kindsOf}
-use Rattle.plain.proofs.places.rules.Statement.{statement}
-use Rattle.plain.proofs.places.rules.Tie as tie
+use Rattle.plain.proofs.RulesLaws.{Placing, place-start, place-end, place-whole, place-adds, place-fits, place-next}
+use Rattle.plain.proofs.rules.rules_of.Statement.{statement}
+use Rattle.plain.proofs.rules.rules_of.Tie as tie
 
 abbrev Inv-loop : tie.InvT-loop
 Inv-loop book kinds at₀ count₀ next₀ t8 at count next = Placing book (kindsOf kinds) at count next
@@ -13,20 +13,20 @@ Inv-loop book kinds at₀ count₀ next₀ t8 at count next = Placing book (kind
 abbrev μ-loop : tie.MeasureT-loop
 μ-loop book kinds at₀ count₀ next₀ t8 at count next = mostRules - count
 
-past-fixed-requires : tie.Need-past-fixed-requires Inv-loop μ-loop
-past-fixed-requires c κs = search needs
+mul-next : tie.Need-mul-next Inv-loop μ-loop
+mul-next c = search needs
 
 loop-holds : tie.Need-loop-holds Inv-loop μ-loop
 loop-holds c = search place-start
 
-marked-at-requires : tie.Need-marked-at-requires Inv-loop μ-loop
-marked-at-requires c κs = search needs
+is-marked-requires : tie.Need-is-marked-requires Inv-loop μ-loop
+is-marked-requires c κs = search needs
 
 returns : tie.Need-returns Inv-loop μ-loop
 returns c = search place-end
 
 add-place : tie.Need-add-place Inv-loop μ-loop
-add-place c = search needs
+add-place c = record { fits = search place-adds }
 
 cast-at : tie.Need-cast-at Inv-loop μ-loop
 cast-at c = record { fits = search place-fits }
@@ -40,8 +40,8 @@ array-write-at c = search needs
 add-count : tie.Need-add-count Inv-loop μ-loop
 add-count c = search needs
 
-past-rule-requires : tie.Need-past-rule-requires Inv-loop μ-loop
-past-rule-requires c κs = search place-on
+rule-end-requires : tie.Need-rule-end-requires Inv-loop μ-loop
+rule-end-requires c κs = search needs
 
 loop-less : tie.Need-loop-less Inv-loop μ-loop
 loop-less c = search needs
@@ -52,22 +52,22 @@ loop-again c = search place-next
 returns-2 : tie.Need-returns-2 Inv-loop μ-loop
 returns-2 c = search place-whole
 
-pub rules-spec : {M : Type 1} → statement M
-rules-spec =
+pub rules-of-spec : {M : Type 1} → statement M
+rules-of-spec =
     tie.close
     (tie.spec
     Inv-loop
     μ-loop
-    past-fixed-requires
+    mul-next
     loop-holds
-    marked-at-requires
+    is-marked-requires
     returns
     add-place
     cast-at
     mul-at
     array-write-at
     add-count
-    past-rule-requires
+    rule-end-requires
     loop-less
     loop-again
     returns-2)
