@@ -23,13 +23,14 @@ use Rattle.rows.specs.Held.{noticesFrom, Sized, factIn, factOf, rowsFrom, facts
 use Rattle.rows.specs.HeldLaws.{facts-of-rows, facts-length}
 use Rattle.rows.specs.Settles.{usedIn, BoardSettled}
 use Rattle.rows.specs.SettlesLaws.{settled-sized, settled-few, settled-full, firingOf, Holds, settled-firing}
+use Rattle.runs.specs.Runs.{boardIn}
 use Rattle.machine.specs.declared.Turn.{Turn}
 use Rattle.machine.specs.declared.Turn.the-variants as T
 use Rattle.machine.specs.declared.firing.Look.{Look}
 use Rattle.machine.specs.declared.firing.Look.the-variants.{Quiet, Full, Spent, Stuck, Fired}
 use Rattle.machine.specs.Represents.{Parts, usedOf, madeOf, Counted}
 use Rattle.machine.specs.Bursts.{attemptBy, Ready, Attempted}
-use Rattle.machine.specs.Firings.{boardHeld, madeFacts, ClassLaid, MadeReady, AfterMade, MadeSettled, Declared, AllDeclared, Playable, attemptOf, countAfter, Stays, Looked}
+use Rattle.machine.specs.Firings.{madeFacts, ClassLaid, MadeReady, AfterMade, MadeSettled, Declared, AllDeclared, Playable, attemptOf, countAfter, Stays, Looked}
 
 -- ---- the board after
 
@@ -49,7 +50,7 @@ module _ (kinds : List Kind) (kind numbers : List ℕ) (count : Count) (marks ma
   -- "If that exceeds 256 cards or 128 notices": the notices alone are too many
   pub made-over : 128 - count .notices < notices → MadeSettled kinds kind numbers count marks madeKind madeNumbers cards notices kind numbers S.Full
   made-over h =
-      let board = boardHeld kinds kind numbers count in
+      let board = boardIn kinds kind numbers count in
       let after = boardAfter kinds board work in
       let n = length-append (board .notices) (ofClass kinds false (work .made)) in
       let many : mostNotices < length (after .notices) = omega (arith, n, facts-length kinds kind numbers noticesFrom (count .notices), ready .noticesAre, ready .fewNotices) in
@@ -77,7 +78,7 @@ module _ (kinds : List Kind) (kind numbers : List ℕ) (count : Count) (marks ma
     same-facts : (row m : ℕ) → row + m ≤ 256 + count .notices → factsFrom kinds kind₁ numbers₁ row m ≡ factsFrom kinds kind numbers row m
     same-facts row m h = facts-of-rows kinds kind₁ numbers₁ row m ∙ ap (map (factIn kinds)) (n .kept row m h) ∙ sym (facts-of-rows kinds kind numbers row m)
 
-    board-kept : boardHeld kinds kind₁ numbers₁ count ≡ boardHeld kinds kind numbers count
+    board-kept : boardIn kinds kind₁ numbers₁ count ≡ boardIn kinds kind numbers count
     board-kept =
         let a = same-facts 0 (count .cards) (omega (arith, ready .fewCards)) in
         let b = same-facts 256 (count .notices) (omega arith) in
@@ -89,7 +90,7 @@ module _ (kinds : List Kind) (kind numbers : List ℕ) (count : Count) (marks ma
     after-made : (s : Settled) → BoardSettled kind₁ numbers₁ count used cardKind cardNumbers made kind₂ numbers₂ s → AfterMade kinds kind numbers count kind₂ numbers₂ s
     after-made S.Full b =
         let e = settled-full kind₁ numbers₁ count used cardKind cardNumbers made kind₂ numbers₂ b in
-        ap₂ (λ (k l : List ℕ). boardHeld kinds k l count) (e .0) (e .1) ∙ board-kept
+        ap₂ (λ (k l : List ℕ). boardIn kinds k l count) (e .0) (e .1) ∙ board-kept
     after-made (S.Fired after) b = settled-few kind₁ numbers₁ count used cardKind cardNumbers made kind₂ numbers₂ after b
 
     pub made-settled : MadeSettled kinds kind numbers count marks madeKind madeNumbers cards notices kind₂ numbers₂ r
@@ -168,7 +169,7 @@ module _ (strip : List ℕ) (kinds : Kinds) (kind numbers : List ℕ) (count : C
   K = kindsOf kinds
 
   abbrev board : Board
-  board = boardHeld (kindsOf kinds) kind numbers count
+  board = boardIn (kindsOf kinds) kind numbers count
 
   pub ready-by : Ready strip kinds kind (count .cards) (count .notices)
   ready-by = record {
@@ -187,7 +188,7 @@ module _ (strip : List ℕ) (kinds : Kinds) (kind numbers : List ℕ) (count : C
   module _ (allowance : ℕ) (turn : Turn) (q : Parts) (a : Attempted strip kind numbers (count .cards) (count .notices) allowance turn q) where
     -- the attempt, by the kinds that are listed
     attempted : attempt (wordsAt strip) allowance board ≡ attemptBy K board turn q
-    attempted = subst (λ (l : List Kind). attempt (wordsAt strip) allowance (boardHeld l kind numbers count) ≡ attemptBy l (boardHeld l kind numbers count) turn q) (sym (p .listed)) (sym (a .is))
+    attempted = subst (λ (l : List Kind). attempt (wordsAt strip) allowance (boardIn l kind numbers count) ≡ attemptBy l (boardIn l kind numbers count) turn q) (sym (p .listed)) (sym (a .is))
 
     counts : Counted K q
     counts = subst (λ (l : List Kind). Counted l q) (sym (p .listed)) (a .counted)
@@ -235,19 +236,19 @@ module _ (strip : List ℕ) (kinds : Kinds) (kind numbers : List ℕ) (count : C
 
         pub look-over : r ≡ S.Full → Looked strip allowance K kind numbers count Full kind′ numbers′
         look-over g =
-            let same : boardHeld K kind′ numbers′ count ≡ board = subst (AfterMade K kind numbers count kind′ numbers′) g (s .board) in
+            let same : boardIn K kind′ numbers′ count ≡ board = subst (AfterMade K kind numbers count kind′ numbers′) g (s .board) in
             record { is = firing S.Full g; stays = same; cards = p .cards; notices = p .notices; sized = s .sized; declared = subst (AllDeclared K) (sym same) (p .declared) }
 
         pub look-fired : (after : Count) → r ≡ S.Fired after → Looked strip allowance K kind numbers count (Fired rule after) kind′ numbers′
         look-fired after g =
             let few : (after .cards ≤ mostCards) × (after .notices ≤ mostNotices) = subst (AfterMade K kind numbers count kind′ numbers′) g (s .board) in
             let made : Declared K (did .made) = facts-declared K (q .madeKind) (q .madeNumbers) 0 (cards + notices) (λ i h. subst (λ (x : ℕ). getD (q .madeKind) x 0 < length K) (sym (zero-add i)) (counts .declared i (omega arith))) in
-            let is : fired rule (boardHeld K kind′ numbers′ after) ≡ settle K board rule did = ap (firingOf K kind′ numbers′ rule) (sym g) ∙ s .is rule in
+            let is : fired rule (boardIn K kind′ numbers′ after) ≡ settle K board rule did = ap (firingOf K kind′ numbers′ rule) (sym g) ∙ s .is rule in
             record {
               is = firing (S.Fired after) g;
               stays = tt;
               cards = few .0;
               notices = few .1;
               sized = s .sized;
-              declared = fired-declared K board (boardHeld K kind′ numbers′ after) rule did (p .declared) made is;
+              declared = fired-declared K board (boardIn K kind′ numbers′ after) rule did (p .declared) made is;
             }

@@ -10,3 +10,5 @@ pub mod CodeLaws
 pub mod BurstLaws
 pub mod LayLaws
 pub mod FiringLaws
+pub mod RunLaws
+pub mod EntryLaws

@@ -15,15 +15,12 @@ use Rattle.kinds.specs.Listed.{kindsOf}
 use Rattle.rows.specs.declared.Count.{Count}
 use Rattle.rows.specs.declared.Settled.{Settled}
 use Rattle.rows.specs.declared.Settled.the-variants as S
-use Rattle.rows.specs.Held.{Sized, rowsFrom, factsFrom, boardOf}
+use Rattle.rows.specs.Held.{Sized, rowsFrom, factsFrom}
 use Rattle.rows.specs.SettlesLaws.{firingOf}
+use Rattle.runs.specs.Runs.{boardIn}
 use Rattle.machine.specs.declared.firing.Look.{Look}
 use Rattle.machine.specs.declared.firing.Look.the-variants.{Quiet, Full, Spent, Stuck, Fired}
 use Rattle.machine.specs.Represents.{usedOf}
-
--- the board that the arrays hold
-abbrev pub boardHeld : List Kind → List ℕ → List ℕ → Count → Board
-boardHeld kinds kind numbers count = boardOf kinds kind numbers (count .cards) (count .notices)
 
 -- ---- the made facts
 
@@ -53,12 +50,12 @@ pub record MadeReady (kinds : List Kind) (kind numbers : List ℕ) (count : Coun
 
 -- nothing fired: the board is as it was; else so many rows fit the arrays
 abbrev pub AfterMade : List Kind → List ℕ → List ℕ → Count → List ℕ → List ℕ → Settled → Type 0
-AfterMade kinds kind numbers count kind′ numbers′ S.Full = boardHeld kinds kind′ numbers′ count ≡ boardHeld kinds kind numbers count
+AfterMade kinds kind numbers count kind′ numbers′ S.Full = boardIn kinds kind′ numbers′ count ≡ boardIn kinds kind numbers count
 AfterMade kinds kind numbers count kind′ numbers′ (S.Fired after) = (after .cards ≤ mostCards) × (after .notices ≤ mostNotices)
 
 -- the firing is that of the used cards and the made facts, whatever rule it is of
 pub record MadeSettled (kinds : List Kind) (kind numbers : List ℕ) (count : Count) (marks madeKind madeNumbers : List ℕ) (cards notices : ℕ) (kind′ numbers′ : List ℕ) (r : Settled) : Type 0 where
-  pub is : (rule : ℕ) → firingOf kinds kind′ numbers′ rule r ≡ settle kinds (boardHeld kinds kind numbers count) rule (record { used = usedOf marks; made = madeFacts kinds madeKind madeNumbers (cards + notices) })
+  pub is : (rule : ℕ) → firingOf kinds kind′ numbers′ rule r ≡ settle kinds (boardIn kinds kind numbers count) rule (record { used = usedOf marks; made = madeFacts kinds madeKind madeNumbers (cards + notices) })
   pub board : AfterMade kinds kind numbers count kind′ numbers′ r
   pub sized : Sized kind′ numbers′
 
@@ -80,7 +77,7 @@ pub record Playable (strip : List ℕ) (kinds : Kinds) (kind numbers : List ℕ)
   pub sized : Sized kind numbers
   pub cards : count .cards ≤ mostCards
   pub notices : count .notices ≤ mostNotices
-  pub declared : AllDeclared (kindsOf kinds) (boardHeld (kindsOf kinds) kind numbers count)
+  pub declared : AllDeclared (kindsOf kinds) (boardIn (kindsOf kinds) kind numbers count)
 
 -- the attempt that the answer stands for, with the board that the arrays hold afterwards
 abbrev pub attemptOf : List Kind → List ℕ → List ℕ → Look → Attempt
@@ -88,7 +85,7 @@ attemptOf kinds kind numbers Quiet = done quiet
 attemptOf kinds kind numbers Full = done full
 attemptOf kinds kind numbers Spent = spent
 attemptOf kinds kind numbers Stuck = stuck
-attemptOf kinds kind numbers (Fired rule count) = done (fired rule (boardHeld kinds kind numbers count))
+attemptOf kinds kind numbers (Fired rule count) = done (fired rule (boardIn kinds kind numbers count))
 
 -- the rows in use afterwards: without a firing those before
 abbrev pub countAfter : Count → Look → Count
@@ -107,9 +104,9 @@ Stays before after Stuck = after ≡ before
 Stays before after (Fired rule count) = Unit {0}
 
 pub record Looked (strip : List ℕ) (allowance : ℕ) (kinds : List Kind) (kind numbers : List ℕ) (count : Count) (look : Look) (kind′ numbers′ : List ℕ) : Type 0 where
-  pub is : attempt (wordsAt strip) allowance (boardHeld kinds kind numbers count) ≡ attemptOf kinds kind′ numbers′ look
-  pub stays : Stays (boardHeld kinds kind numbers count) (boardHeld kinds kind′ numbers′ count) look
+  pub is : attempt (wordsAt strip) allowance (boardIn kinds kind numbers count) ≡ attemptOf kinds kind′ numbers′ look
+  pub stays : Stays (boardIn kinds kind numbers count) (boardIn kinds kind′ numbers′ count) look
   pub cards : countAfter count look .cards ≤ mostCards
   pub notices : countAfter count look .notices ≤ mostNotices
   pub sized : Sized kind′ numbers′
-  pub declared : AllDeclared kinds (boardHeld kinds kind′ numbers′ (countAfter count look))
+  pub declared : AllDeclared kinds (boardIn kinds kind′ numbers′ (countAfter count look))

@@ -3,3 +3,4 @@ pub mod Represents
 pub mod Effects
 pub mod Bursts
 pub mod Firings
+pub mod Entry
