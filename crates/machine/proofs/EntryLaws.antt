@@ -55,17 +55,14 @@ module _ (stripFile : List ℕ) (kinds : Kinds) (boardFile : List ℕ) (room : �
   K = kindsOf kinds
 
   good : All GoodKind K
-  good = subst (λ (k : List Kind). All GoodKind k) (sym (ready .listed)) (strip-kinds-good (wordsAt stripFile) (ready .good) .1)
+  good = subst (λ (k : List Kind). All GoodKind k) (sym (ready .known .listed)) (strip-kinds-good (wordsAt stripFile) (ready .known .good) .1)
 
   module _ (kind numbers : List ℕ) (count : Count) (l : BoardLoaded (boardAt boardFile (kindsOf kinds)) noKinds noNumbers kind numbers count) where
     pub loaded-playable : Playable stripFile kinds kind numbers count
     loaded-playable =
         let b = good-loaded boardFile K good kind numbers count l (ready .board) in
         record {
-          good = ready .good;
-          whole = ready .whole;
-          kindsSize = ready .kindsSize;
-          listed = ready .listed;
+          known = ready .known;
           sized = sized-loaded boardFile K good kind numbers count l;
           cards = cards-loaded boardFile K good kind numbers count l;
           notices = notices-loaded boardFile K good kind numbers count l;
@@ -148,10 +145,12 @@ module _ (stripFile boardFile : List ℕ) (limit allowance : ℕ) (out : List �
             let s = strip-accepted stripFile (judged .0) (are-bytes stripFile bytes) (judged .1) in
             let r = board-accepted (kindsOf kinds) boardFile (judged₂ .0) (are-bytes boardFile bytes₂) (judged₂ .1) in
             record {
-              good = rw place (s .0);
-              whole = rw place (strip-size stripFile (judged .0) (judged .1));
-              kindsSize = rw k (leading-few stripFile);
-              listed = sym kinds-are ∙ ap stripKinds (sym place);
+              known = record {
+                good = rw place (s .0);
+                whole = rw place (strip-size stripFile (judged .0) (judged .1));
+                kindsSize = rw k (leading-few stripFile);
+                listed = sym kinds-are ∙ ap stripKinds (sym place);
+              };
               board = rw board-is (r .0);
               space = l;
             }

@@ -173,25 +173,25 @@ module _ (strip : List ℕ) (kinds : Kinds) (kind numbers : List ℕ) (count : C
 
   pub ready-by : Ready strip kinds kind (count .cards) (count .notices)
   ready-by = record {
-    good = p .good;
-    whole = p .whole;
-    kindsSize = p .kindsSize;
-    listed = p .listed;
+    good = p .known .good;
+    whole = p .known .whole;
+    kindsSize = p .known .kindsSize;
+    listed = p .known .listed;
     cardsSize = p .cards;
     noticesSize = p .notices;
-    cardKinds = λ q h. subst (λ (l : List Kind). getD kind q 0 < length l) (p .listed)
+    cardKinds = λ q h. subst (λ (l : List Kind). getD kind q 0 < length l) (p .known .listed)
         (subst (λ (r : ℕ). getD kind r 0 < length K) (zero-add q) (declared-at K kind numbers 0 (count .cards) (p .declared .0) q h));
-    noticeKinds = λ q a h. subst (λ (l : List Kind). getD kind q 0 < length l) (p .listed)
+    noticeKinds = λ q a h. subst (λ (l : List Kind). getD kind q 0 < length l) (p .known .listed)
         (subst (λ (r : ℕ). getD kind r 0 < length K) (let e : 256 + (q - 256) ≡ q = omega arith in e) (declared-at K kind numbers 256 (count .notices) (p .declared .1) (q - 256) (omega arith)));
   }
 
   module _ (allowance : ℕ) (turn : Turn) (q : Parts) (a : Attempted strip kind numbers (count .cards) (count .notices) allowance turn q) where
     -- the attempt, by the kinds that are listed
     attempted : attempt (wordsAt strip) allowance board ≡ attemptBy K board turn q
-    attempted = subst (λ (l : List Kind). attempt (wordsAt strip) allowance (boardIn l kind numbers count) ≡ attemptBy l (boardIn l kind numbers count) turn q) (sym (p .listed)) (sym (a .is))
+    attempted = subst (λ (l : List Kind). attempt (wordsAt strip) allowance (boardIn l kind numbers count) ≡ attemptBy l (boardIn l kind numbers count) turn q) (sym (p .known .listed)) (sym (a .is))
 
     counts : Counted K q
-    counts = subst (λ (l : List Kind). Counted l q) (sym (p .listed)) (a .counted)
+    counts = subst (λ (l : List Kind). Counted l q) (sym (p .known .listed)) (a .counted)
 
     pub look-spent : (next : ℕ) → turn ≡ T.Go next → Looked strip allowance K kind numbers count Spent kind numbers
     look-spent next e = record { is = attempted ∙ ap (λ (t : Turn). attemptBy K board t q) e; stays = refl; cards = p .cards; notices = p .notices; sized = p .sized; declared = p .declared }

@@ -86,17 +86,14 @@ module _ (strip : List ℕ) (kinds : Kinds) (allowance : ℕ) (start : Board) (l
 
     pub run-fired : (number : ℕ) (after : Count) → look ≡ L.Fired number after → Running strip kinds allowance start limit kind′ numbers′ after (firings + 1) number
     run-fired number after e =
-        let known : Looked strip allowance K kind numbers count (L.Fired number after) kind′ numbers′ = subst (λ (q : Look). Looked strip allowance K kind numbers count q kind′ numbers′) e l in
+        let l′ : Looked strip allowance K kind numbers count (L.Fired number after) kind′ numbers′ = subst (λ (q : Look). Looked strip allowance K kind numbers count q kind′ numbers′) e l in
         record {
           playable = record {
-            good = s .playable .good;
-            whole = s .playable .whole;
-            kindsSize = s .playable .kindsSize;
-            listed = s .playable .listed;
-            sized = known .sized;
-            cards = known .cards;
-            notices = known .notices;
-            declared = known .declared;
+            known = s .playable .known;
+            sized = l′ .sized;
+            cards = l′ .cards;
+            notices = l′ .notices;
+            declared = l′ .declared;
           };
-          going = going-on (attempt (wordsAt strip) allowance) start limit before firings rule (s .going) h number (boardIn K kind′ numbers′ after) (known .is);
+          going = going-on (attempt (wordsAt strip) allowance) start limit before firings rule (s .going) h number (boardIn K kind′ numbers′ after) (l′ .is);
         }

@@ -1,14 +1,10 @@
 -- What the entry has judged before it runs a strip, and document 01's answer for each case of what it answers.
-use mathlib.Core.Path.{_≡_}
-use Prim.Native.Nat.{ℕ, _*_, _≤_}
+use Prim.Native.Nat.{ℕ, _≤_}
 use mathlib.Core.List.{List}
-use lib.ListN.{length}
-use Rattle.meaning.specs.Facts.{mostKinds, longestBoard}
-use Rattle.meaning.specs.Words.{stripKinds}
-use Rattle.meaning.specs.WellFormed.{GoodStrip, GoodBoard}
+use Rattle.meaning.specs.Facts.{longestBoard}
+use Rattle.meaning.specs.WellFormed.{GoodBoard}
 use Rattle.files.specs.Numbers.{SHORT, strip, board, output, Answer, refusal}
 use Rattle.files.specs.InPlace.{boardAt}
-use Rattle.files.specs.Strip.{wordsAt}
 use Rattle.files.specs.Entries.{toldAnswer}
 use Rattle.kinds.specs.declared.Kinds.{Kinds}
 use Rattle.kinds.specs.Listed.{kindsOf}
@@ -17,13 +13,11 @@ use Rattle.strip.specs.Told.{stripTold}
 use Rattle.runs.specs.Runs.{endedAnswer}
 use Rattle.machine.specs.declared.run.StripRan.{StripRan}
 use Rattle.machine.specs.declared.run.StripRan.the-variants as A
+use Rattle.machine.specs.Firings.{Known}
 
 -- both files are accepted, and the output has room for every board
 pub record BothAccepted (stripFile : List ℕ) (kinds : Kinds) (boardFile : List ℕ) (room : ℕ) : Type 0 where
-  pub good : GoodStrip (wordsAt stripFile)
-  pub whole : length stripFile ≡ 8 * length (wordsAt stripFile)
-  pub kindsSize : kinds .count ≤ mostKinds
-  pub listed : kindsOf kinds ≡ stripKinds (wordsAt stripFile)
+  pub known : Known stripFile kinds
   pub board : GoodBoard (kindsOf kinds) (boardAt boardFile (kindsOf kinds))
   pub space : longestBoard ≤ room
 

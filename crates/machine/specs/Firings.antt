@@ -68,12 +68,16 @@ Declared kinds facts = All (λ f. f .kind < length kinds) facts
 abbrev pub AllDeclared : List Kind → Board → Type 0
 AllDeclared kinds board = Declared kinds (board .cards) × Declared kinds (board .notices)
 
--- an accepted strip in whole words, its kinds, and arrays of their sizes with rows of these kinds
-pub record Playable (strip : List ℕ) (kinds : Kinds) (kind numbers : List ℕ) (count : Count) : Type 0 where
+-- an accepted strip in whole words, and its kinds
+pub record Known (strip : List ℕ) (kinds : Kinds) : Type 0 where
   pub good : GoodStrip (wordsAt strip)
   pub whole : length strip ≡ 8 * length (wordsAt strip)
   pub kindsSize : kinds .count ≤ mostKinds
   pub listed : kindsOf kinds ≡ stripKinds (wordsAt strip)
+
+-- beside it, arrays of their sizes with rows of these kinds: what a run keeps from firing to firing
+pub record Playable (strip : List ℕ) (kinds : Kinds) (kind numbers : List ℕ) (count : Count) : Type 0 where
+  pub known : Known strip kinds
   pub sized : Sized kind numbers
   pub cards : count .cards ≤ mostCards
   pub notices : count .notices ≤ mostNotices

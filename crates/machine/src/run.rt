@@ -1,9 +1,9 @@
 // The run of a strip on a board, from two files to a third.
+use crate::firing::Look;
+use crate::firing::fire;
 use board::Board;
 use board::BoardChecked;
 use board::check_board;
-use crate::firing::Look;
-use crate::firing::fire;
 use kinds::Kinds;
 use rows::Count;
 use runs::End;
@@ -113,7 +113,15 @@ fn play(
     let mut kind = [0u8; 384];
     let mut numbers = [0u16; 1536];
     let count = rows::load(kinds, board, &mut kind, &mut numbers);
-    let ran = run(strip, kinds, &mut kind, &mut numbers, count, limit, allowance);
+    let ran = run(
+        strip,
+        kinds,
+        &mut kind,
+        &mut numbers,
+        count,
+        limit,
+        allowance,
+    );
     let end = ran.end;
     let after = ran.count;
     let length = rows::write(kinds, &kind, &numbers, after, out);
@@ -126,13 +134,7 @@ fn play(
 }
 
 // Judges strip, board and output, in this order, and then runs the strip on the board, up to so many firings of so many steps each.
-pub fn run_strip(
-    strip: &[u8],
-    board: &[u8],
-    limit: u16,
-    allowance: u64,
-    out: &mut [u8],
-) -> StripRan
+pub fn run_strip(strip: &[u8], board: &[u8], limit: u16, allowance: u64, out: &mut [u8]) -> StripRan
     ensures { λ r. ⌜ Gives (runStripFile (now (strip .entry)) (now (board .entry)) limit allowance (length (now (out .entry)))) (now (out .entry)) (stripAnswer r) (now (out .exit)) ⌝ }
 {
     let first = check_strip(strip);
