@@ -3,34 +3,33 @@ use Prim.Native.Nat.{ℕ, zero, suc, _+_, _-_, _*_, _≤_, _<_}
 use native.Mathlib.Nat.{add-zero, zero-add}
 use native.Mathlib.Omega.{arith}
 use mathlib.Core.Path.{_≡_, refl, sym, ap, ap₂, _∙_, subst}
-use mathlib.Core.Bool.{Bool, true, false, _&&_, and-false}
+use mathlib.Core.Bool.{Bool, true, false, and-false}
 use mathlib.Core.List.{List, [], _∷_, _++_, map}
 use lib.ListN.{length, getD, length-append}
 use lib.Dec.{leb}
 use borrow.Author.Tests.{lt-leb}
-use Rattle.meaning.specs.Basics.{if_then_else_, All}
+use Rattle.meaning.specs.Basics.{if_then_else_}
 use Rattle.meaning.specs.Facts.{Kind, Fact, Board, isCard, mostCards, mostNotices}
 use Rattle.meaning.specs.Fit.{Marks}
-use Rattle.meaning.specs.Firing.{Work, unusedRows, ofClass, boardAfter, hasRoom, Firing, full, fired, settle, Attempt, done}
-use Rattle.meaning.specs.Words.{stripKinds, attempt}
+use Rattle.meaning.specs.Firing.{Work, unusedRows, ofClass, boardAfter, hasRoom, full, fired, settle, done}
+use Rattle.meaning.specs.Words.{attempt}
 use Rattle.files.specs.Strip.{wordsAt}
 use Rattle.kinds.specs.declared.Kinds.{Kinds}
 use Rattle.kinds.specs.Listed.{kindsOf}
 use Rattle.rows.specs.declared.Count.{Count}
 use Rattle.rows.specs.declared.Settled.{Settled}
 use Rattle.rows.specs.declared.Settled.the-variants as S
-use Rattle.rows.specs.Held.{noticesFrom, Sized, factIn, factOf, rowsFrom, factsFrom, boardOf}
+use Rattle.rows.specs.Held.{noticesFrom, Sized, factIn, factsFrom}
 use Rattle.rows.specs.HeldLaws.{facts-of-rows, facts-length}
 use Rattle.rows.specs.Settles.{usedIn, BoardSettled}
 use Rattle.rows.specs.SettlesLaws.{settled-sized, settled-few, settled-full, firingOf, Holds, settled-firing}
 use Rattle.runs.specs.Runs.{boardIn}
 use Rattle.machine.specs.declared.Turn.{Turn}
 use Rattle.machine.specs.declared.Turn.the-variants as T
-use Rattle.machine.specs.declared.firing.Look.{Look}
 use Rattle.machine.specs.declared.firing.Look.the-variants.{Quiet, Full, Spent, Stuck, Fired}
-use Rattle.machine.specs.Represents.{Parts, usedOf, madeOf, Counted}
+use Rattle.machine.specs.Represents.{Parts, usedOf, Counted}
 use Rattle.machine.specs.Bursts.{attemptBy, Ready, Attempted}
-use Rattle.machine.specs.Firings.{madeFacts, ClassLaid, MadeReady, AfterMade, MadeSettled, Declared, AllDeclared, Playable, attemptOf, countAfter, Stays, Looked}
+use Rattle.machine.specs.Firings.{madeFacts, ClassLaid, MadeReady, AfterMade, MadeSettled, Declared, AllDeclared, Playable, Looked}
 
 -- ---- the board after
 

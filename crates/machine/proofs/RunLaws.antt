@@ -1,5 +1,5 @@
 -- The run over the arrays, attempt after attempt: the board may be played, and to go on from it is the whole run.
-use Prim.Native.Nat.{ℕ, _+_, _-_, _≤_, _<_}
+use Prim.Native.Nat.{ℕ, _+_, _≤_, _<_}
 use mathlib.Core.Path.{_≡_, ap, _∙_, subst}
 use mathlib.Core.List.{List}
 use Rattle.meaning.specs.Facts.{Kind, Board}

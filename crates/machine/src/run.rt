@@ -11,7 +11,6 @@ use runs::Ended;
 use runs::Ran;
 use strip::StripChecked;
 use strip::check_strip;
-ghost use mathlib.Core.Path.{_≡_};
 ghost use lib.ListN.{length};
 ghost use Rattle.meaning.specs.Words.{runStrip};
 ghost use Rattle.files.specs.InPlace.{boardAt};

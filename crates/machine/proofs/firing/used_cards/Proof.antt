@@ -1,7 +1,6 @@
 -- `used_cards`: the marks behind are taken over, those ahead are not set. The measure: how many are left.
 use borrow.Author.Needs.{needs}
 use Prim.Native.Nat.{_-_}
-use native.Mathlib.Omega.{arith}
 use Rattle.machine.proofs.LayLaws.{Using, using-start, using-pass, using-set, using-end}
 use Rattle.machine.proofs.firing.used_cards.Statement.{statement}
 use Rattle.machine.proofs.firing.used_cards.Tie as tie
