@@ -1,7 +1,7 @@
-// The engine for other languages: document 01's answers behind functions of C, the three checks, the run of a book and the translation. Every
-// function takes any bytes.
+// The engine for other languages: document 01's six entries behind functions of C. Every function takes any bytes.
 use board::BoardChecked;
 use book::BookChecked;
+use machine::run::StripRan;
 use plain::run::BookRan;
 use runs::End;
 use runs::Ended;
@@ -11,9 +11,10 @@ ghost use mathlib.Core.Path.{_≡_};
 ghost use Prim.Native.Nat.{ℕ, _<_};
 ghost use Rattle.files.specs.Numbers as N;
 ghost use Rattle.files.specs.Numbers.{book, strip, board};
-ghost use Rattle.files.specs.Entries.{bytesAfter, toldAnswer, checkBook, checkBoard, checkStrip, runBookFile, translateFile};
+ghost use Rattle.files.specs.Entries.{bytesAfter, toldAnswer, checkBook, checkBoard, checkStrip, runBookFile, translateFile, runStripFile};
 ghost use Rattle.runs.specs.Runs.{endOf, endedAnswer};
 ghost use Rattle.plain.specs.Entry.{bookAnswer};
+ghost use Rattle.machine.specs.Entry.{stripAnswer};
 ghost use Rattle.translate.specs.Answers.{translatedAnswer};
 ghost use lib.ListN.{length};
 ghost use Rattle.book.specs.Told.{bookTold};
@@ -157,6 +158,18 @@ fn of_book_ran(ran: BookRan) -> Answer
     }
 }
 
+// The answer of a run of a strip.
+fn of_strip_ran(ran: StripRan) -> Answer
+    ensures { λ r. ⌜ answerOf r ≡ shown (stripAnswer ran) ⌝ }
+{
+    match ran {
+        StripRan::Strip(told) => of_strip(told),
+        StripRan::Board(told) => of_board(told),
+        StripRan::Short => refusal(4, 10, 0),
+        StripRan::Ended(ended) => of_ended(ended),
+    }
+}
+
 // The answer of a translation.
 fn of_translated(translated: Translated) -> Answer
     ensures { λ r. ⌜ answerOf r ≡ shown (translatedAnswer translated) ⌝ }
@@ -224,4 +237,19 @@ pub extern "C" fn llwybrenu_translate(book: &[u8], out: &mut [u8]) -> Answer
         × (now (out .exit) ≡ bytesAfter (translateFile (now (book .entry)) (length (now (out .entry)))) (now (out .entry))) ⌝ }
 {
     of_translated(translate::translate(book, out))
+}
+
+// Runs a rule strip on a board, up to so many firings of so many steps each, and writes the board that it ends with from the start of the output.
+#[no_mangle]
+pub extern "C" fn llwybrenu_run_strip(
+    strip: &[u8],
+    board: &[u8],
+    limit: u16,
+    allowance: u64,
+    out: &mut [u8],
+) -> Answer
+    ensures { λ r. ⌜ (answerOf r ≡ shown (runStripFile (now (strip .entry)) (now (board .entry)) limit allowance (length (now (out .entry))) .answer))
+        × (now (out .exit) ≡ bytesAfter (runStripFile (now (strip .entry)) (now (board .entry)) limit allowance (length (now (out .entry)))) (now (out .entry))) ⌝ }
+{
+    of_strip_ran(machine::run::run_strip(strip, board, limit, allowance, out))
 }
