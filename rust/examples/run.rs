@@ -11,7 +11,11 @@ fn main() {
     let words: Vec<String> = std::env::args().skip(1).collect();
     let (book, board, allowance) = match words.as_slice() {
         [book, board] => (book, board, None),
-        [book, board, allowance] => (book, board, Some(allowance.parse().expect("the allowance is a number"))),
+        [book, board, allowance] => (
+            book,
+            board,
+            Some(allowance.parse().expect("the allowance is a number")),
+        ),
         _ => {
             eprintln!("usage: run BOOK BOARD [ALLOWANCE]");
             std::process::exit(2);
@@ -26,10 +30,18 @@ fn main() {
         Some(allowance) => run_as_strip(&book, &board, allowance, &mut out),
     };
     if answer.is_refusal() {
-        println!("refused {} {} {}", answer.file_name(), answer.number, answer.place);
+        println!(
+            "refused {} {} {}",
+            answer.file_name(),
+            answer.number,
+            answer.place
+        );
         std::process::exit(1);
     }
-    println!("fired {} end {} rule {}", answer.firings, answer.number, answer.rule);
+    println!(
+        "fired {} end {} rule {}",
+        answer.firings, answer.number, answer.rule
+    );
     show_rows(&book, &out[..answer.length as usize]);
 }
 
@@ -49,7 +61,14 @@ fn show_rows(book: &[u8], mut rest: &[u8]) {
     while rest[..2] != *b"en" {
         let kind = usize::from(rest[2]);
         let end = 3 + 2 * usize::from(book[4 * kind + 3]);
-        print!("{} {kind}", if rest[..2] == *b"ca" { "card" } else { "notice" });
+        print!(
+            "{} {kind}",
+            if rest[..2] == *b"ca" {
+                "card"
+            } else {
+                "notice"
+            }
+        );
         for number in rest[3..end].chunks(2) {
             print!(" {}", u16::from_le_bytes([number[0], number[1]]));
         }

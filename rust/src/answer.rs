@@ -52,11 +52,16 @@ impl Answer {
 
     /// The name of the number, as the documents have it.
     pub fn name(&self) -> &'static str {
-        NAMES.iter().find(|(number, _)| *number == self.number).map_or("", |(_, name)| name)
+        NAMES
+            .iter()
+            .find(|(number, _)| *number == self.number)
+            .map_or("", |(_, name)| name)
     }
 
     /// The name of the file that a refusal is about; no name if it is none.
     pub fn file_name(&self) -> &'static str {
-        ["", "book", "strip", "board", "output"].get(usize::from(self.file)).unwrap_or(&"")
+        ["", "book", "strip", "board", "output"]
+            .get(usize::from(self.file))
+            .unwrap_or(&"")
     }
 }

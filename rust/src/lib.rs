@@ -71,7 +71,15 @@ pub fn translate(book: &[u8], out: &mut [u8]) -> Answer {
 /// ```
 pub fn run_book(book: &[u8], board: &[u8], limit: u16, out: &mut [u8]) -> Answer {
     unsafe {
-        engine::llwybrenu_run_book(book.as_ptr(), book.len(), board.as_ptr(), board.len(), limit, out.as_mut_ptr(), out.len())
+        engine::llwybrenu_run_book(
+            book.as_ptr(),
+            book.len(),
+            board.as_ptr(),
+            board.len(),
+            limit,
+            out.as_mut_ptr(),
+            out.len(),
+        )
     }
 }
 

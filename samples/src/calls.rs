@@ -10,8 +10,14 @@ use second::samples::calls::{call, Call, Entry, MOST_STEPS};
 use second::samples::dice::Dice;
 use second::strip::read_strip;
 
-pub const ENTRIES: [Entry; 6] =
-    [Entry::CheckBook, Entry::CheckBoard, Entry::CheckStrip, Entry::Translate, Entry::RunBook, Entry::RunStrip];
+pub const ENTRIES: [Entry; 6] = [
+    Entry::CheckBook,
+    Entry::CheckBoard,
+    Entry::CheckStrip,
+    Entry::Translate,
+    Entry::RunBook,
+    Entry::RunStrip,
+];
 
 /// Whether the entry takes a strip, and no book.
 fn takes_strip(entry: Entry) -> bool {
@@ -22,17 +28,29 @@ fn takes_strip(entry: Entry) -> bool {
 pub fn calls_of(seed: u64) -> Vec<Call> {
     let own = call(seed);
     let mut dice = Dice::new(!seed);
-    let strip = Call { source: translated(&own.source).unwrap_or(own.source.clone()), ..own.clone() };
+    let strip = Call {
+        source: translated(&own.source).unwrap_or(own.source.clone()),
+        ..own.clone()
+    };
     let mut calls = Vec::new();
     for entry in ENTRIES {
         // a strip is refused by a book's entries at once: now and then that is looked at too
         if takes_strip(entry) || !takes_strip(own.entry) || dice.chance(5) {
             let files = if takes_strip(entry) { &strip } else { &own };
-            calls.push(Call { entry, room: room(&mut dice, entry), ..files.clone() });
+            calls.push(Call {
+                entry,
+                room: room(&mut dice, entry),
+                ..files.clone()
+            });
         }
     }
     if let Some(steps) = most_steps(&strip) {
-        let edge = |allowance| Call { entry: Entry::RunStrip, room: LONGEST_BOARD, allowance, ..strip.clone() };
+        let edge = |allowance| Call {
+            entry: Entry::RunStrip,
+            room: LONGEST_BOARD,
+            allowance,
+            ..strip.clone()
+        };
         calls.extend([edge(steps - 1), edge(steps)]);
     }
     calls.push(own);
@@ -41,9 +59,20 @@ pub fn calls_of(seed: u64) -> Vec<Call> {
 
 /// The calls of a seed on which book and strip must agree: none for another file than a book.
 pub fn runs_of(calls: &[Call]) -> impl Iterator<Item = Call> + '_ {
-    let book = calls.iter().find(|call| call.entry == Entry::RunBook).filter(|call| translated(&call.source).is_some());
-    let allowances = calls.iter().filter(|call| call.entry == Entry::RunStrip).map(|call| call.allowance);
-    book.into_iter().flat_map(move |book| allowances.clone().map(|allowance| Call { allowance, ..book.clone() }))
+    let book = calls
+        .iter()
+        .find(|call| call.entry == Entry::RunBook)
+        .filter(|call| translated(&call.source).is_some());
+    let allowances = calls
+        .iter()
+        .filter(|call| call.entry == Entry::RunStrip)
+        .map(|call| call.allowance);
+    book.into_iter().flat_map(move |book| {
+        allowances.clone().map(|allowance| Call {
+            allowance,
+            ..book.clone()
+        })
+    })
 }
 
 /// The steps of the longest attempt of a strip's run, found by the second program; none for a refused file, for a run without attempts or

@@ -2,7 +2,9 @@
 
 pub mod agreement;
 pub mod calls;
+pub mod longest;
 pub mod report;
 pub mod shrink;
 pub mod sides;
 pub mod summary;
+pub mod writing;

@@ -38,10 +38,19 @@ fn main() {
         compare(seed, &mut summary);
         if shown.elapsed() > PROGRESS {
             shown = Instant::now();
-            eprintln!("  {} of {} seeds, {} calls", seed - seeds.start, seeds.end - seeds.start, summary.total());
+            eprintln!(
+                "  {} of {} seeds, {} calls",
+                seed - seeds.start,
+                seeds.end - seeds.start,
+                summary.total()
+            );
         }
     }
-    println!("{} calls compared in {} ms, all alike", summary.total(), began.elapsed().as_millis());
+    println!(
+        "{} calls compared in {} ms, all alike",
+        summary.total(),
+        began.elapsed().as_millis()
+    );
     print!("{}", summary.lines());
     let missing = summary.missing();
     if seeds == USUAL && !missing.is_empty() {
@@ -75,7 +84,10 @@ fn tell(seed: u64, call: Call, check: Check) -> ! {
     let folder = Path::new("target/differences").join(format!("seed-{seed}-{:?}", least.entry));
     match report::write(&folder, &least, &difference) {
         Ok(page) => print!("seed {seed}, files in {}\n{page}", folder.display()),
-        Err(error) => println!("seed {seed}: a difference, but {} can't be written: {error}", folder.display()),
+        Err(error) => println!(
+            "seed {seed}: a difference, but {} can't be written: {error}",
+            folder.display()
+        ),
     }
     std::process::exit(1);
 }

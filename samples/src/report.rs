@@ -9,7 +9,10 @@ use std::{fs, io};
 pub fn write(folder: &Path, call: &Call, difference: &Difference) -> io::Result<String> {
     fs::create_dir_all(folder)?;
     let is_strip = matches!(call.entry, Entry::CheckStrip | Entry::RunStrip);
-    fs::write(folder.join(if is_strip { "strip" } else { "book" }), &call.source)?;
+    fs::write(
+        folder.join(if is_strip { "strip" } else { "book" }),
+        &call.source,
+    )?;
     fs::write(folder.join("board"), &call.board)?;
     for (name, said) in difference.names.iter().zip(&difference.said) {
         fs::write(folder.join(format!("out.{name}")), &said.out)?;
@@ -21,19 +24,47 @@ pub fn write(folder: &Path, call: &Call, difference: &Difference) -> io::Result<
 
 /// The call and what the sides say.
 fn page(call: &Call, difference: &Difference) -> String {
-    let Call { entry, source, board, limit, allowance, room } = call;
-    let mut page = format!("{entry:?} limit {limit} allowance {allowance} output of {room} bytes\n");
-    page += &format!("book or strip {source:02x?}\nboard {board:02x?}\n");
+    let mut page = describe(call);
     for (name, said) in difference.names.iter().zip(&difference.said) {
-        page += &format!("{name}: {} {:?}{}\n", said.answer.name(), said.answer, if said.files_kept { "" } else { ", files changed" });
+        let answer = said.answer;
+        let files = if said.files_kept {
+            ""
+        } else {
+            ", files changed"
+        };
+        page += &format!("{name}: {} {answer:?}{files}\n", answer.name());
     }
     page + &first_byte(&difference.said)
 }
 
+/// All that a call is given.
+pub fn describe(call: &Call) -> String {
+    let Call {
+        entry,
+        source,
+        board,
+        limit,
+        allowance,
+        room,
+    } = call;
+    format!(
+        "{entry:?} limit {limit} allowance {allowance} output of {room} bytes\n\
+         book or strip {source:02x?}\nboard {board:02x?}\n"
+    )
+}
+
 /// The first byte of the outputs that differs; they stand between margins of canaries.
 fn first_byte([one, other]: &[Said; 2]) -> String {
-    match one.out.iter().zip(&other.out).position(|(one, other)| one != other) {
+    match one
+        .out
+        .iter()
+        .zip(&other.out)
+        .position(|(one, other)| one != other)
+    {
         None => "equal outputs\n".into(),
-        Some(at) => format!("outputs differ from byte {at} of the files out.*: {:02x} and {:02x}\n", one.out[at], other.out[at]),
+        Some(at) => format!(
+            "outputs differ from byte {at} of the files out.*: {:02x} and {:02x}\n",
+            one.out[at], other.out[at]
+        ),
     }
 }

@@ -21,28 +21,55 @@ pub fn smallest(mut call: Call, check: Check) -> Call {
 
 /// Calls that are a little smaller, those with most taken away first.
 fn smaller(call: &Call) -> impl Iterator<Item = Call> + '_ {
-    let sources = without(&call.source).map(|source| Call { source, ..call.clone() });
-    let boards = without(&call.board).map(|board| Call { board, ..call.clone() });
-    let limits = fewer(call.limit.into()).map(|limit| Call { limit: limit as u16, ..call.clone() });
-    let allowances = fewer(call.allowance).map(|allowance| Call { allowance, ..call.clone() });
+    let sources = without(&call.source).map(|source| Call {
+        source,
+        ..call.clone()
+    });
+    let boards = without(&call.board).map(|board| Call {
+        board,
+        ..call.clone()
+    });
+    let limits = fewer(call.limit.into()).map(|limit| Call {
+        limit: limit as u16,
+        ..call.clone()
+    });
+    let allowances = fewer(call.allowance).map(|allowance| Call {
+        allowance,
+        ..call.clone()
+    });
     sources.chain(boards).chain(limits).chain(allowances)
 }
 
 /// A file without a stretch of its bytes: two records (a sweep isn't left without its atom), one record, halves, quarters and so on.
 fn without(file: &[u8]) -> impl Iterator<Item = Vec<u8>> + '_ {
-    let marks = || (0..file.len()).filter(|i| MARKS.iter().any(|mark| file[*i..].starts_with(*mark)));
-    let records = marks().zip(marks().skip(2)).chain(marks().zip(marks().skip(1)));
-    let halves = std::iter::successors(Some(file.len().div_ceil(2)), |size| (*size > 1).then(|| size.div_ceil(2)));
-    let stretches = halves.flat_map(move |size| (0..file.len()).step_by(size).map(move |start| (start, file.len().min(start + size))));
-    records.chain(stretches).map(|(start, end)| [&file[..start], &file[end..]].concat())
+    let marks =
+        || (0..file.len()).filter(|i| MARKS.iter().any(|mark| file[*i..].starts_with(*mark)));
+    let records = marks()
+        .zip(marks().skip(2))
+        .chain(marks().zip(marks().skip(1)));
+    let halves = std::iter::successors(Some(file.len().div_ceil(2)), |size| {
+        (*size > 1).then(|| size.div_ceil(2))
+    });
+    let stretches = halves.flat_map(move |size| {
+        (0..file.len())
+            .step_by(size)
+            .map(move |start| (start, file.len().min(start + size)))
+    });
+    records
+        .chain(stretches)
+        .map(|(start, end)| [&file[..start], &file[end..]].concat())
 }
 
 /// The marks of books and boards.
-const MARKS: [&[u8]; 9] = [b"kd", b"ru", b"ba", b"te", b"he", b"sw", b"en", b"ca", b"no"];
+const MARKS: [&[u8]; 9] = [
+    b"kd", b"ru", b"ba", b"te", b"he", b"sw", b"en", b"ca", b"no",
+];
 
 /// Smaller numbers: none, half, one less.
 fn fewer(number: u64) -> impl Iterator<Item = u64> {
-    [0, number / 2, number.saturating_sub(1)].into_iter().filter(move |fewer| *fewer < number)
+    [0, number / 2, number.saturating_sub(1)]
+        .into_iter()
+        .filter(move |fewer| *fewer < number)
 }
 
 /// Whether a run surely ends soon: what is left of a file may well search for hours.
@@ -52,7 +79,13 @@ fn is_quick(call: &Call) -> bool {
         Entry::RunBook if is_book => {
             let strip = translated_strip(&call.source);
             let refused = second::check_board(&call.source, &call.board).number != 0;
-            call.limit == 0 || refused || most_steps(&Call { source: strip, ..call.clone() }).is_some()
+            call.limit == 0
+                || refused
+                || most_steps(&Call {
+                    source: strip,
+                    ..call.clone()
+                })
+                .is_some()
         }
         Entry::RunStrip => call.allowance < 100_000 || most_steps(call).is_some(),
         _ => true,

@@ -18,7 +18,10 @@ pub struct Summary {
 impl Summary {
     /// Counts a call in.
     pub fn count(&mut self, entry: Entry, answer: &Answer) {
-        let place = ENTRIES.iter().position(|other| *other == entry).expect("one of the six");
+        let place = ENTRIES
+            .iter()
+            .position(|other| *other == entry)
+            .expect("one of the six");
         *self.calls.entry((place, answer.number)).or_default() += 1;
         self.names.insert(answer.number, answer.name());
     }
@@ -30,7 +33,10 @@ impl Summary {
 
     /// The numbers that no call was answered with: samples that leave one out compare less than they should.
     pub fn missing(&self) -> Vec<u8> {
-        (0..=11).chain(20..=24).filter(|number| !self.names.contains_key(number)).collect()
+        (0..=11)
+            .chain(20..=24)
+            .filter(|number| !self.names.contains_key(number))
+            .collect()
     }
 
     /// A line for each entry.
