@@ -1,5 +1,9 @@
 //! The benchmark cases as files: book, board and strip, for any number of rows.
 
+use samples::longest::longest_book;
+use samples::writing::Term::V;
+use samples::writing::{Board, Book, LESS};
+
 /// The files of a case at one number of rows.
 pub struct Files {
     pub book: Vec<u8>,
@@ -33,7 +37,7 @@ const NOTICE_SIZES: [usize; 4] = [16, 32, 64, 128];
 const ROUNDS: u16 = 4_000;
 
 /// All cases that run.
-pub const CASES: [Case; 12] = [
+pub const CASES: [Case; 13] = [
     Case {
         name: "join of 3, fits late",
         rows: 240,
@@ -54,6 +58,13 @@ pub const CASES: [Case; 12] = [
         sizes: CARD_SIZES,
         unit: Unit::Row,
         files: join_by_tests,
+    },
+    Case {
+        name: "join of 4, never fits",
+        rows: 240,
+        sizes: CARD_SIZES,
+        unit: Unit::Row,
+        files: join_of_four,
     },
     Case {
         name: "ring of 4, quiet",
@@ -126,14 +137,14 @@ pub const CASES: [Case; 12] = [
 /// for none or only for the last pair a z.
 fn join_of_three(rows: usize, fits: bool) -> Files {
     let third = (rows / 3) as u16;
-    let mut book = Book::new();
+    let mut book = Book::default();
     let [x, y, z, done] = [book.card(2), book.card(2), book.card(2), book.card(1)];
     book.rule();
     book.body(x, &[V(0), V(1)]);
     book.body(y, &[V(1), V(2)]);
     book.body(z, &[V(2), V(0)]);
     book.head(done, &[V(0)]);
-    let mut board = Board::new();
+    let mut board = Board::default();
     for i in 0..third {
         board.card(x, &[i, i % 8]);
     }
@@ -150,7 +161,7 @@ fn join_of_three(rows: usize, fits: bool) -> Files {
 /// x(A), y(B), z(C) with A < B, B < C, C < A over a third of the rows each: never.
 fn join_by_tests(rows: usize) -> Files {
     let third = (rows / 3) as u16;
-    let mut book = Book::new();
+    let mut book = Book::default();
     let [x, y, z, done] = [book.card(1), book.card(1), book.card(1), book.card(0)];
     book.rule();
     book.body(x, &[V(0)]);
@@ -160,23 +171,42 @@ fn join_by_tests(rows: usize) -> Files {
     book.test(LESS, V(1), V(2));
     book.test(LESS, V(2), V(0));
     book.head(done, &[]);
-    let mut board = Board::new();
+    let mut board = Board::default();
     for kind in [x, y, z] {
         (0..third).for_each(|i| board.card(kind, &[i]));
     }
     files(book, board, 1)
 }
 
+/// w(A,B), x(B,C), y(C,D), z(D,A) over a quarter of the rows each: at every depth an eighth of the
+/// rows fit, but no z at the end.
+fn join_of_four(rows: usize) -> Files {
+    let mut book = Book::default();
+    let kinds = [(); 4].map(|_| book.card(2));
+    let done = book.card(0);
+    book.rule();
+    for i in 0..4 {
+        book.body(kinds[usize::from(i)], &[V(i), V((i + 1) % 4)]);
+    }
+    book.head(done, &[]);
+    let mut board = Board::default();
+    for (place, kind) in kinds.into_iter().enumerate() {
+        let last = if place == 3 { 2_000 } else { 0 };
+        (0..(rows / 4) as u16).for_each(|i| board.card(kind, &[i % 8, last + i / 8 % 8]));
+    }
+    files(book, board, 1)
+}
+
 /// x(A,B), x(B,C), x(C,D), x(D,A) over a chain that doesn't close: quiet.
 fn ring_of_four(rows: usize) -> Files {
-    let mut book = Book::new();
+    let mut book = Book::default();
     let [x, done] = [book.card(2), book.card(0)];
     book.rule();
     for i in 0..4 {
         book.body(x, &[V(i), V((i + 1) % 4)]);
     }
     book.head(done, &[]);
-    let mut board = Board::new();
+    let mut board = Board::default();
     for i in 0..rows as u16 {
         board.card(x, &[i, i + 1]);
     }
@@ -188,7 +218,7 @@ fn ring_of_four(rows: usize) -> Files {
 fn card_sweep(rows: usize, taken: bool) -> Files {
     // At 256 rows go() needs one of them.
     let half = (rows / 2).min(127) as u16;
-    let mut book = Book::new();
+    let mut book = Book::default();
     let [go, a, b] = [book.card(0), book.card(2), book.card(2)];
     let [p, done] = [book.card(2), book.card(0)];
     book.rule();
@@ -198,7 +228,7 @@ fn card_sweep(rows: usize, taken: bool) -> Files {
     book.body(a, &[V(0), V(1)]);
     book.body(b, &[V(1), V(2)]);
     book.head(p, &[V(0), V(2)]);
-    let mut board = Board::new();
+    let mut board = Board::default();
     board.card(go, &[]);
     for i in 0..half {
         board.card(a, &[1_000 + i, i]);
@@ -212,7 +242,7 @@ fn card_sweep(rows: usize, taken: bool) -> Files {
 
 /// go() with sweep n(X,K), n(K,Y) to found(X,Y) over the notices; four choices are taken.
 fn notice_sweep(rows: usize) -> Files {
-    let mut book = Book::new();
+    let mut book = Book::default();
     let [go, n, found] = [book.card(0), book.notice(2), book.card(2)];
     book.rule();
     book.body(go, &[]);
@@ -220,7 +250,7 @@ fn notice_sweep(rows: usize) -> Files {
     book.body(n, &[V(0), V(1)]);
     book.body(n, &[V(1), V(2)]);
     book.head(found, &[V(0), V(2)]);
-    let mut board = Board::new();
+    let mut board = Board::default();
     board.card(go, &[]);
     let rows = rows as u16;
     for i in 0..rows {
@@ -232,28 +262,28 @@ fn notice_sweep(rows: usize) -> Files {
 
 /// Counters that go round through three kinds, one card a firing.
 fn one_card_firings(rows: usize) -> Files {
-    let mut book = Book::new();
+    let mut book = Book::default();
     let kinds = [book.card(1), book.card(1), book.card(1)];
     for i in 0..3 {
         book.rule();
         book.body(kinds[i], &[V(0)]);
         book.head(kinds[(i + 1) % 3], &[V(0)]);
     }
-    let mut board = Board::new();
+    let mut board = Board::default();
     (0..rows as u16).for_each(|i| board.card(kinds[0], &[i]));
     files(book, board, ROUNDS)
 }
 
 /// Pairs of cards with one key that exchange their counters for ever.
 fn two_card_firings(rows: usize) -> Files {
-    let mut book = Book::new();
+    let mut book = Book::default();
     let [a, b] = [book.card(2), book.card(2)];
     book.rule();
     book.body(a, &[V(0), V(1)]);
     book.body(b, &[V(0), V(2)]);
     book.head(a, &[V(0), V(2)]);
     book.head(b, &[V(0), V(1)]);
-    let mut board = Board::new();
+    let mut board = Board::default();
     let half = (rows / 2) as u16;
     (0..half).for_each(|i| board.card(a, &[i, 1]));
     (0..half).for_each(|i| board.card(b, &[half - 1 - i, 2]));
@@ -262,13 +292,13 @@ fn two_card_firings(rows: usize) -> Files {
 
 /// Counters that go round by a table of 60 notices.
 fn card_and_notice_firings(rows: usize) -> Files {
-    let mut book = Book::new();
+    let mut book = Book::default();
     let [counter, next] = [book.card(1), book.notice(2)];
     book.rule();
     book.body(counter, &[V(0)]);
     book.body(next, &[V(0), V(1)]);
     book.head(counter, &[V(1)]);
-    let mut board = Board::new();
+    let mut board = Board::default();
     (0..rows as u16).for_each(|i| board.card(counter, &[i % 60]));
     (0..60).for_each(|i| board.notice(next, &[i, (i + 1) % 60]));
     files(book, board, ROUNDS)
@@ -276,19 +306,19 @@ fn card_and_notice_firings(rows: usize) -> Files {
 
 /// c(N) makes c(N): seven steps for each attempt.
 fn short_attempts(rows: usize) -> Files {
-    let mut book = Book::new();
+    let mut book = Book::default();
     let c = book.card(1);
     book.rule();
     book.body(c, &[V(0)]);
     book.head(c, &[V(0)]);
-    let mut board = Board::new();
+    let mut board = Board::default();
     (0..rows as u16).for_each(|i| board.card(c, &[i]));
     files(book, board, ROUNDS)
 }
 
 /// The hat book: half of the rows orders, half free machines, and a notice for each pair.
 fn hat_firings(rows: usize) -> Files {
-    let mut book = Book::new();
+    let mut book = Book::default();
     let [order, free] = [book.card(2), book.card(1)];
     let [suits, start] = [book.notice(2), book.card(3)];
     book.rule();
@@ -296,7 +326,7 @@ fn hat_firings(rows: usize) -> Files {
     book.body(free, &[V(2)]);
     book.body(suits, &[V(2), V(0)]);
     book.head(start, &[V(2), V(0), V(1)]);
-    let mut board = Board::new();
+    let mut board = Board::default();
     let half = (rows / 2) as u16;
     (0..half).for_each(|i| board.card(order, &[i, 40]));
     (0..half).for_each(|i| board.card(free, &[i]));
@@ -304,161 +334,12 @@ fn hat_firings(rows: usize) -> Files {
     files(book, board, 1_000)
 }
 
-/// The longest book: 32 kinds with 4 numbers, 32 rules of the largest size.
-pub fn longest_book() -> Vec<u8> {
-    let mut book = Book::new();
-    for _ in 0..32 {
-        book.card(4);
-    }
-    for rule in 0..32 {
-        book.rule();
-        let group = |book: &mut Book, size: u16| {
-            let terms = |i: u16| [V(i % 3), V(3 + i % 3), V(6 + i % 3), V(9 + i % 3)];
-            (0..size).for_each(|i| book.body((rule + i as u8) % 32, &terms(i)));
-            (0..size).for_each(|i| book.test((i % 4) as u8, V(i % 3), C(1_000 + i)));
-            (0..size).for_each(|i| book.head((rule + i as u8) % 32, &terms(i)));
-        };
-        group(&mut book, 6);
-        for _ in 0..2 {
-            book.sweep();
-            group(&mut book, 4);
-        }
-    }
-    book.finish()
-}
-
-/// A book of two kinds with 4 numbers, cards and notices, and no rule.
-pub fn book_for_longest_board() -> Vec<u8> {
-    let mut book = Book::new();
-    book.card(4);
-    book.notice(4);
-    book.finish()
-}
-
-/// The longest board: 256 cards and 128 notices with 4 numbers.
-pub fn longest_board() -> Vec<u8> {
-    let mut board = Board::new();
-    (0..256).for_each(|i| board.card(0, &[i, 2 * i, 3 * i, 4 * i]));
-    (0..128).for_each(|i| board.notice(1, &[i, 2 * i, 3 * i, 4 * i]));
-    board.finish()
-}
-
 /// The longest strip: the longest book's.
 pub fn longest_strip() -> Vec<u8> {
     strip_of(&longest_book())
 }
 
-// ---------------------------------------------------------------- writing files
-
-/// The test 'less'.
-const LESS: u8 = 2;
-
-/// A term: a variable or a constant.
-#[derive(Clone, Copy)]
-enum Term {
-    V(u16),
-    C(u16),
-}
-use Term::{C, V};
-
-/// A book being written.
-struct Book {
-    bytes: Vec<u8>,
-    kinds: u8,
-}
-
-impl Book {
-    fn new() -> Book {
-        Book {
-            bytes: Vec::new(),
-            kinds: 0,
-        }
-    }
-
-    /// Declares a kind of cards and gives its number.
-    fn card(&mut self, arity: u8) -> u8 {
-        self.kind(0, arity)
-    }
-
-    /// Declares a kind of notices and gives its number.
-    fn notice(&mut self, arity: u8) -> u8 {
-        self.kind(1, arity)
-    }
-
-    fn kind(&mut self, class: u8, arity: u8) -> u8 {
-        self.bytes.extend([b'k', b'd', class, arity]);
-        self.kinds += 1;
-        self.kinds - 1
-    }
-
-    fn rule(&mut self) {
-        self.bytes.extend(b"ru");
-    }
-
-    fn sweep(&mut self) {
-        self.bytes.extend(b"sw");
-    }
-
-    fn body(&mut self, kind: u8, terms: &[Term]) {
-        self.bytes.extend([b'b', b'a', kind]);
-        self.terms(terms);
-    }
-
-    fn test(&mut self, number: u8, left: Term, right: Term) {
-        self.bytes.extend([b't', b'e', number]);
-        self.terms(&[left, right]);
-    }
-
-    fn head(&mut self, kind: u8, terms: &[Term]) {
-        self.bytes.extend([b'h', b'e', kind]);
-        self.terms(terms);
-    }
-
-    fn terms(&mut self, terms: &[Term]) {
-        for term in terms {
-            let (tag, value) = match term {
-                C(value) => (0, value),
-                V(variable) => (1, variable),
-            };
-            self.bytes.push(tag);
-            self.bytes.extend(value.to_le_bytes());
-        }
-    }
-
-    fn finish(mut self) -> Vec<u8> {
-        self.bytes.extend(b"en");
-        self.bytes
-    }
-}
-
-/// A board being written.
-struct Board(Vec<u8>);
-
-impl Board {
-    fn new() -> Board {
-        Board(Vec::new())
-    }
-
-    fn card(&mut self, kind: u8, numbers: &[u16]) {
-        self.fact(b"ca", kind, numbers);
-    }
-
-    fn notice(&mut self, kind: u8, numbers: &[u16]) {
-        self.fact(b"no", kind, numbers);
-    }
-
-    fn fact(&mut self, mark: &[u8; 2], kind: u8, numbers: &[u16]) {
-        self.0.extend(mark);
-        self.0.push(kind);
-        let bytes = numbers.iter().flat_map(|number| number.to_le_bytes());
-        self.0.extend(bytes);
-    }
-
-    fn finish(mut self) -> Vec<u8> {
-        self.0.extend(b"en");
-        self.0
-    }
-}
+// ---------------------------------------------------------------- the files
 
 /// The files of a case.
 fn files(book: Book, board: Board, limit: u16) -> Files {
