@@ -3,7 +3,8 @@
 mod date;
 mod timing;
 
-use bench::cases::{self, Case, Files, Unit, CASES};
+use bench::case_files::{longest_strip, Files};
+use bench::cases::{Case, Unit, CASES};
 use bench::programs::{programs, Engine, Program, Tuned};
 use bench::tuned::run_strip_counting;
 use bench::tuned::tally::Count;
@@ -128,7 +129,7 @@ fn count(files: &Files) -> (u16, Count) {
 fn reading_lines() -> Vec<Line> {
     let book = longest_book();
     let board = longest_board();
-    let strip = cases::longest_strip();
+    let strip = longest_strip();
     let lengths = [book.len(), board.len(), strip.len()];
     assert_eq!(lengths, [LONGEST_BOOK, LONGEST_BOARD, LONGEST_STRIP]);
     let kinds = book_of_longest_board();

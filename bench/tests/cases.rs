@@ -1,7 +1,8 @@
 //! The benchmark cases do what their names say, and the tuned implementation answers them as the
 //! second program does.
 
-use bench::cases::{self, Files, CASES};
+use bench::case_files::{longest_strip, Files};
+use bench::cases::CASES;
 use bench::programs::{Program, Second, Tuned};
 use bench::tuned::run_strip_counting;
 use bench::tuned::tally::Count;
@@ -77,5 +78,5 @@ fn seven_steps_an_attempt() {
 fn longest_files() {
     assert_eq!(longest_book().len(), LONGEST_BOOK);
     assert_eq!(longest_board().len(), LONGEST_BOARD);
-    assert_eq!(cases::longest_strip().len(), LONGEST_STRIP);
+    assert_eq!(longest_strip().len(), LONGEST_STRIP);
 }

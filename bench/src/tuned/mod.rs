@@ -8,6 +8,7 @@ mod answers;
 mod atoms;
 mod board;
 mod book;
+mod cursor;
 mod index;
 mod machine;
 mod plain;
