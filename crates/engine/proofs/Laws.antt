@@ -1,6 +1,6 @@
 -- What an entry answers is what its check tells: one law for every refusal of every file, one for an acceptance, and one each for the checks.
 use Prim.Native.Nat.{ℕ, _≤_, _<_}
-use mathlib.Core.Path.{_≡_, refl, sym, ap, _∙_}
+use mathlib.Core.Path.{_≡_, refl, sym, ap, ap₂, _∙_}
 use mathlib.Core.Bool.{Bool, true, false}
 use mathlib.Core.Option.{Option, none, some}
 use mathlib.Core.List.{List}
@@ -20,6 +20,8 @@ use Rattle.files.specs.Entries.{Outcome, nothingWritten, ifAccepted, tellsNothi
 use Rattle.book_encoding.specs.Placed.{book-in-place}
 use Rattle.book.specs.Told.{bookTold}
 use Rattle.book.specs.declared.BookChecked.{BookChecked}
+use Rattle.runs.specs.declared.Ended.{Ended}
+use Rattle.runs.specs.Runs.{endOf, endedAnswer}
 use Rattle.translate.specs.Answers.{translatedAnswer}
 use Rattle.translate.specs.declared.Translated.{Translated}
 use Rattle.translate.specs.declared.Translated.the-variants as T
@@ -82,6 +84,17 @@ board-answer bookFile boardFile o p t kinds a bytes e i n k j h = by (judgeBook 
     by (accepted b) v q =
         let same : kinds ≡ b .kinds = k ∙ book-in-place bookFile b bytes v .1 in
         h ∙ ap shown (ap (toldAnswer board) (j ∙ ap (λ (ks : List Kind). told (judgeBoard ks boardFile)) same) ∙ sym (check-told board (judgeBoard (b .kinds) boardFile)))
+
+-- ---- a run
+
+-- what is answered in the case at hand is what is answered
+pub in-case : {T : Type 0} (says : T → N.Answer) (t case : T) (a : N.Answer) → t ≡ case → a ≡ shown (says case) → a ≡ shown (says t)
+in-case {T} says t case a e h = h ∙ ap (λ (x : T). shown (says x)) (sym e)
+
+pub ended-answer : (r : Ended) (number length : ℕ) → number ≡ N.endNumber (endOf (r .end)) → length ≡ atMostPlace (r .length)
+    → _≡_ {A = N.Answer} (record { number = number; file = 0; place = 0; length = length; firings = r .firings; rule = r .rule }) (shown (endedAnswer r))
+ended-answer r number length e h =
+    ap₂ (λ (n l : ℕ). record { number = n; file = 0; place = 0; length = l; firings = r .firings; rule = r .rule }) e h
 
 -- ---- a translation
 
