@@ -60,7 +60,7 @@ fn fewer(number: u64) -> impl Iterator<Item = u64> {
 /// atom), one record, short stretches.
 fn without(file: &[u8]) -> impl Iterator<Item = Vec<u8>> + '_ {
     let marks =
-        || (0..file.len()).filter(|i| MARKS.iter().any(|mark| file[*i..].starts_with(*mark)));
+        || (0..file.len()).filter(|i| MARKS.iter().any(|mark| file[*i..].starts_with(mark)));
     let records = marks()
         .zip(marks().skip(2))
         .chain(marks().zip(marks().skip(1)));
