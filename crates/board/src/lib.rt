@@ -1,6 +1,7 @@
 // The board file: its sizes and marks, and the check that a file is a board of the kinds that a book or a strip declares.
 ghost use mathlib.Core.Path.{_≡_};
 ghost use Rattle.files.specs.Judge.{told};
+ghost use Rattle.files.specs.Entries.{tellsNothing};
 ghost use Rattle.files.specs.Board.{judgeBoard};
 ghost use Rattle.kinds.specs.Listed.{kindsOf};
 ghost use Rattle.board.specs.Told.{boardTold};
@@ -141,5 +142,20 @@ pub fn check_board(kinds: Kinds, board: &[u8]) -> BoardChecked
             BoardRecord::Many => return BoardChecked::Many(at),
             BoardRecord::Field => return BoardChecked::Field(at),
         }
+    }
+}
+
+// Does the check accept the board?
+pub fn is_accepted(checked: BoardChecked) -> bool
+    ensures { λ r. ⌜ r ≡ tellsNothing (boardTold checked) ⌝ }
+{
+    match checked {
+        BoardChecked::Accepted => true,
+        BoardChecked::Cut(_) => false,
+        BoardChecked::Mark(_) => false,
+        BoardChecked::Place(_) => false,
+        BoardChecked::Many(_) => false,
+        BoardChecked::Field(_) => false,
+        BoardChecked::Trail(_) => false,
     }
 }

@@ -12,6 +12,7 @@ use Rattle.meaning.specs.Basics.{if_then_else_}
 use Rattle.meaning.specs.Facts.{Kind, mostKinds}
 use Rattle.files.specs.Marks.{KD, isMark}
 use Rattle.files.specs.InPlace.{byteAt, prepend, recordsAt, kindAt, kindsAt}
+use Rattle.book.specs.Kinds.{KindsRead}
 use Rattle.kinds.specs.declared.Kinds.{Kinds}
 use Rattle.kinds.specs.Listed.{kindsOf, kindsFrom, noKinds, withKind}
 use Rattle.kinds.specs.KindLaws.{with-room, with-listed}
@@ -59,19 +60,22 @@ module _ (file rest : List ℕ) (kinds : Kinds) (s : Counted file rest kinds) wh
   here : isMark KD (byteAt rest 0) (byteAt rest 1) ≡ markAt file (4 * kinds .count)
   here = ap₂ (isMark KD) (byte-there 0 (4 * kinds .count) (omega arith)) (byte-there 1 (4 * kinds .count + 1) refl)
 
-  pub count-whole : mostKinds ≤ kinds .count → kindsOf kinds ≡ kindsAt file .value
+  pub count-whole : mostKinds ≤ kinds .count → KindsRead file kinds
   unfolding recordsAt
   count-whole h =
       let e : mostKinds - kinds .count ≡ 0 = omega arith in
-      sym (append-nil (kindsOf kinds)) ∙ ap (λ (n : ℕ). kindsOf kinds ++ from file n (4 * kinds .count)) (sym e) ∙ s .same
+      record { listed = sym (append-nil (kindsOf kinds)) ∙ ap (λ (n : ℕ). kindsOf kinds ++ from file n (4 * kinds .count)) (sym e) ∙ s .same; few = s .few }
 
   module _ (mark : Bool) (m : mark ≡ isMark KD (byteAt rest 0) (byteAt rest 1)) where
-    pub count-end : not mark ≡ true → kindsOf kinds ≡ kindsAt file .value
-    count-end e =
-        sym (append-nil (kindsOf kinds))
-        ∙ ap (λ (l : List Kind). kindsOf kinds ++ l)
-        (sym (from-none file (mostKinds - kinds .count) (4 * kinds .count) (sym here ∙ sym m ∙ not-true mark e)))
-        ∙ s .same
+    pub count-end : not mark ≡ true → KindsRead file kinds
+    count-end e = record {
+      listed =
+          sym (append-nil (kindsOf kinds))
+          ∙ ap (λ (l : List Kind). kindsOf kinds ++ l)
+          (sym (from-none file (mostKinds - kinds .count) (4 * kinds .count) (sym here ∙ sym m ∙ not-true mark e)))
+          ∙ s .same;
+      few = s .few;
+    }
 
     module _ (h : kinds .count < mostKinds) (e : not mark ≡ false) (class arity : ℕ) (c : class ≡ byteAt rest 2) (a : arity ≡ byteAt rest 3) (more : Kinds)
         (k : more ≡ withKind kinds class arity) where
@@ -114,7 +118,7 @@ module _ (file rest : List ℕ) (kinds : Kinds) (s : Counted file rest kinds) wh
 -- a record that the end cuts is the last
 pub count-last : (file rest : List ℕ) (kinds : Kinds) → Counted file rest kinds → (mark : Bool) → mark ≡ isMark KD (byteAt rest 0) (byteAt rest 1)
     → kinds .count < mostKinds → not mark ≡ false → (class arity : ℕ) → class ≡ byteAt rest 2 → arity ≡ byteAt rest 3
-    → (more : Kinds) → more ≡ withKind kinds class arity → length rest < 4 → kindsOf more ≡ kindsAt file .value
+    → (more : Kinds) → more ≡ withKind kinds class arity → length rest < 4 → KindsRead file more
 count-last file rest kinds s mark m h e class arity c a more k l =
     count-end file (drop 4 rest) more (next file rest kinds s mark m h e class arity c a more k) false
     (ap (λ (x : List ℕ). isMark KD (byteAt x 0) (byteAt x 1)) (sym (drop-of-length-le rest {i = 4} (omega arith)))) refl

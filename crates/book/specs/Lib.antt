@@ -1,4 +1,5 @@
 pub mod Told
+pub mod Kinds
 pub mod ToldLaws
 pub mod Sets
 pub mod Reads

@@ -4,13 +4,14 @@ ghost use Prim.Native.Nat.{ℕ, _+_, _≤_, _<_};
 ghost use mathlib.Core.List.{List, [], _∷_};
 ghost use lib.ListN.{length};
 ghost use Rattle.files.specs.Judge.{told};
+ghost use Rattle.files.specs.Entries.{tellsNothing};
 ghost use Rattle.files.specs.Book.{markOf, judgeBook};
 ghost use Rattle.files.specs.Book as B;
-ghost use Rattle.files.specs.InPlace.{byteAt, termAt, kindsAt};
-ghost use Rattle.kinds.specs.Listed.{kindsOf};
+ghost use Rattle.files.specs.InPlace.{byteAt, termAt};
 ghost use Rattle.meaning.specs.Facts.{variables};
 ghost use Rattle.book.specs.Sets.{isIn, withVariable};
 ghost use Rattle.book.specs.Told.{bookTold};
+ghost use Rattle.book.specs.Kinds.{KindsRead};
 ghost use Rattle.book.specs.Reads.{Known, TermReads, TermsRead, AtomReads, KindReads, TestReads};
 ghost use Rattle.book.specs.Holds.{withRules, markIs, inBody, MayStand, Lacks, Most, FieldsRead, RecordReads};
 use fields::byte_at;
@@ -578,7 +579,7 @@ pub fn check_book(book: &[u8]) -> BookChecked
 
 // The kinds at the start of any bytes.
 pub fn kinds(book: &[u8]) -> Kinds
-    ensures { λ r. ⌜ kindsOf r ≡ kindsAt (now (book .entry)) .value ⌝ }
+    ensures { λ r. ⌜ KindsRead (now (book .entry)) r ⌝ }
 {
     let mut kinds = Kinds::none();
     let mut rest = book;
@@ -593,4 +594,22 @@ pub fn kinds(book: &[u8]) -> Kinds
         rest = &rest[4..];
     }
     kinds
+}
+
+// Does the check accept the book?
+pub fn is_accepted(checked: BookChecked) -> bool
+    ensures { λ r. ⌜ r ≡ tellsNothing (bookTold checked) ⌝ }
+{
+    match checked {
+        BookChecked::Accepted => true,
+        BookChecked::Cut(_) => false,
+        BookChecked::Mark(_) => false,
+        BookChecked::Place(_) => false,
+        BookChecked::Nocard(_) => false,
+        BookChecked::Bare(_) => false,
+        BookChecked::Many(_) => false,
+        BookChecked::Field(_) => false,
+        BookChecked::Loose(_) => false,
+        BookChecked::Trail(_) => false,
+    }
 }

@@ -1,5 +1,6 @@
 pub mod Bytes
 pub mod Judging
+pub mod Telling
 pub mod Records
 pub mod Written
 pub mod Boards

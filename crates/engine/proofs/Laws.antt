@@ -1,6 +1,6 @@
 -- What an entry answers is what its check tells: one law for every refusal of every file, one for an acceptance, and one each for the checks.
 use Prim.Native.Nat.{ℕ, _≤_, _<_}
-use mathlib.Core.Path.{_≡_, refl, sym, ap, _∙_}
+use mathlib.Core.Path.{_≡_, refl, sym, ap, ap₂, _∙_}
 use mathlib.Core.Bool.{Bool, true, false}
 use mathlib.Core.Option.{Option, none, some}
 use mathlib.Core.List.{List}
@@ -16,15 +16,16 @@ use Rattle.files.specs.InPlace.{kindsAt}
 use Rattle.files.specs.Board.{judgeBoard}
 use Rattle.files.specs.Book.{judgeBook}
 use Rattle.files.specs.Strip.{judgeStrip}
-use Rattle.files.specs.Entries.{Outcome, nothingWritten, ifAccepted, checkBook, checkBoard, checkStrip}
+use Rattle.files.specs.Entries.{Outcome, nothingWritten, ifAccepted, tellsNothing, toldAnswer, checkBook, checkBoard, checkStrip}
 use Rattle.book_encoding.specs.Placed.{book-in-place}
 use Rattle.book.specs.Told.{bookTold}
 use Rattle.book.specs.declared.BookChecked.{BookChecked}
-use Rattle.translate.specs.Answers as A
+use Rattle.runs.specs.declared.Ended.{Ended}
+use Rattle.runs.specs.Runs.{endOf, endedAnswer}
 use Rattle.translate.specs.Answers.{translatedAnswer}
 use Rattle.translate.specs.declared.Translated.{Translated}
 use Rattle.translate.specs.declared.Translated.the-variants as T
-use Rattle.engine.specs.Shown.{atMostPlace, mostPlace, shown, toldAnswer, refusedBy, isNone}
+use Rattle.engine.specs.Shown.{atMostPlace, mostPlace, shown, refusedBy}
 
 pub place-small : (place : ℕ) → place < mostPlace → place ≡ atMostPlace place
 place-small place h = rw (lt-ltb place mostPlace h)
@@ -60,39 +61,46 @@ unfolding checkStrip
 strip-answer file o a e h = h ∙ ap shown (ap (toldAnswer strip) e ∙ sym (check-told strip (judgeStrip file)))
 
 -- the book is refused
-pub board-book-refused : (bookFile boardFile : List ℕ) (o : Option (Refusal × ℕ)) (t : Bool) (a : N.Answer) → o ≡ told (judgeBook bookFile) → t ≡ isNone o → t ≡ false
+pub board-book-refused : (bookFile boardFile : List ℕ) (o : Option (Refusal × ℕ)) (t : Bool) (a : N.Answer) → o ≡ told (judgeBook bookFile) → t ≡ tellsNothing o → t ≡ false
     → a ≡ shown (toldAnswer book o) → a ≡ shown (checkBoard bookFile boardFile .answer)
 unfolding checkBoard
 board-book-refused bookFile boardFile o t a e i n h = by (judgeBook bookFile) e
   where
     by : (v : Verdict Book) → o ≡ told v
         → a ≡ shown ((ifAccepted book v λ b. ifAccepted board (judgeBoard (b .kinds) boardFile) λ rows. nothingWritten (N.acceptance 0)) .answer)
-    by (accepted b) q = let bad : true ≡ false = ap isNone (sym q) ∙ sym i ∙ n in let z : _≡_ {A = ℕ} 0 1 = cc in let worse : ⊥ = omega arith in absurd worse
+    by (accepted b) q = let bad : true ≡ false = ap tellsNothing (sym q) ∙ sym i ∙ n in let z : _≡_ {A = ℕ} 0 1 = cc in let worse : ⊥ = omega arith in absurd worse
     by (refused why place) q = h ∙ ap (λ (x : Option (Refusal × ℕ)). shown (toldAnswer book x)) q
 
 -- the book is accepted, and its kinds are those that stand at its start
 pub board-answer : (bookFile boardFile : List ℕ) (o p : Option (Refusal × ℕ)) (t : Bool) (kinds : List Kind) (a : N.Answer) → Bytes bookFile → o ≡ told (judgeBook bookFile)
-    → t ≡ isNone o → t ≡ true → kinds ≡ kindsAt bookFile .value → p ≡ told (judgeBoard kinds boardFile) → a ≡ shown (toldAnswer board p)
+    → t ≡ tellsNothing o → t ≡ true → kinds ≡ kindsAt bookFile .value → p ≡ told (judgeBoard kinds boardFile) → a ≡ shown (toldAnswer board p)
     → a ≡ shown (checkBoard bookFile boardFile .answer)
 unfolding checkBoard
 board-answer bookFile boardFile o p t kinds a bytes e i n k j h = by (judgeBook bookFile) refl e
   where
     by : (v : Verdict Book) → judgeBook bookFile ≡ v → o ≡ told v
         → a ≡ shown ((ifAccepted book v λ b. ifAccepted board (judgeBoard (b .kinds) boardFile) λ rows. nothingWritten (N.acceptance 0)) .answer)
-    by (refused why place) v q = let bad : false ≡ true = ap isNone (sym q) ∙ sym i ∙ n in let z : _≡_ {A = ℕ} 0 1 = cc in let worse : ⊥ = omega arith in absurd worse
+    by (refused why place) v q = let bad : false ≡ true = ap tellsNothing (sym q) ∙ sym i ∙ n in let z : _≡_ {A = ℕ} 0 1 = cc in let worse : ⊥ = omega arith in absurd worse
     by (accepted b) v q =
         let same : kinds ≡ b .kinds = k ∙ book-in-place bookFile b bytes v .1 in
         h ∙ ap shown (ap (toldAnswer board) (j ∙ ap (λ (ks : List Kind). told (judgeBoard ks boardFile)) same) ∙ sym (check-told board (judgeBoard (b .kinds) boardFile)))
 
--- ---- a translation
+-- ---- a run
 
-same-told : (o : Option (Refusal × ℕ)) → toldAnswer book o ≡ A.toldAnswer o
-same-told none = refl
-same-told (some (why, place)) = refl
+-- what is answered in the case at hand is what is answered
+pub in-case : {T : Type 0} (says : T → N.Answer) (t case : T) (a : N.Answer) → t ≡ case → a ≡ shown (says case) → a ≡ shown (says t)
+in-case {T} says t case a e h = h ∙ ap (λ (x : T). shown (says x)) (sym e)
+
+pub ended-answer : (r : Ended) (number length : ℕ) → number ≡ N.endNumber (endOf (r .end)) → length ≡ atMostPlace (r .length)
+    → _≡_ {A = N.Answer} (record { number = number; file = 0; place = 0; length = length; firings = r .firings; rule = r .rule }) (shown (endedAnswer r))
+ended-answer r number length e h =
+    ap₂ (λ (n l : ℕ). record { number = n; file = 0; place = 0; length = l; firings = r .firings; rule = r .rule }) e h
+
+-- ---- a translation
 
 -- the book is refused
 pub translated-refused : (t : Translated) (said : BookChecked) (a : N.Answer) → t ≡ T.Refused said → a ≡ shown (toldAnswer book (bookTold said)) → a ≡ shown (translatedAnswer t)
-translated-refused t said a e h = h ∙ ap shown (same-told (bookTold said)) ∙ ap (λ (x : Translated). shown (translatedAnswer x)) (sym e)
+translated-refused t said a e h = h ∙ ap (λ (x : Translated). shown (translatedAnswer x)) (sym e)
 
 -- the output is too short
 pub translated-short : (t : Translated) (a : N.Answer) → t ≡ T.Short → a ≡ refusedBy 4 10 0 → a ≡ shown (translatedAnswer t)

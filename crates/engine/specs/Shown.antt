@@ -1,11 +1,8 @@
 -- What the struct that C receives says, in the terms of crates/files Numbers. Its place and length have 32 bits: a number past those is shown as the largest.
 use Prim.Native.Nat.{ℕ}
-use mathlib.Core.Bool.{Bool, true, false}
-use mathlib.Core.Option.{Option, none, some}
 use lib.Dec.{ltb}
 use Rattle.meaning.specs.Basics.{if_then_else_}
 use Rattle.files.specs.Numbers as N
-use Rattle.files.specs.Numbers.{Refusal, File}
 use Rattle.engine.specs.declared.Answer.{Answer}
 
 abbrev pub answerOf : Answer → N.Answer
@@ -22,16 +19,6 @@ abbrev pub shown : N.Answer → N.Answer
 shown a =
     record { number = a .number; file = a .file; place = atMostPlace (a .place); length = atMostPlace (a .length); firings = a .firings; rule = a .rule }
 
--- the answer of a check, by what it tells
-abbrev pub toldAnswer : File → Option (Refusal × ℕ) → N.Answer
-toldAnswer file none = N.acceptance 0
-toldAnswer file (some (why, place)) = N.refusal file why place
-
 -- a refusal, by the numbers of the file and of the reason
 abbrev pub refusedBy : ℕ → ℕ → ℕ → N.Answer
 refusedBy file number place = record { number = number; file = file; place = atMostPlace place; length = 0; firings = 0; rule = 255 }
-
--- it tells of no refusal
-abbrev pub isNone : Option (Refusal × ℕ) → Bool
-isNone none = true
-isNone (some refusal) = false

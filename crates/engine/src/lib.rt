@@ -1,19 +1,26 @@
-// The engine for other languages: document 01's answers behind functions of C, the three checks and the translation. Every function takes any bytes.
+// The engine for other languages: document 01's six entries behind functions of C. Every function takes any bytes.
 use board::BoardChecked;
 use book::BookChecked;
+use machine::run::StripRan;
+use plain::run::BookRan;
+use runs::End;
+use runs::Ended;
 use strip::StripChecked;
 use translate::Translated;
 ghost use mathlib.Core.Path.{_≡_};
 ghost use Prim.Native.Nat.{ℕ, _<_};
 ghost use Rattle.files.specs.Numbers as N;
 ghost use Rattle.files.specs.Numbers.{book, strip, board};
-ghost use Rattle.files.specs.Entries.{bytesAfter, checkBook, checkBoard, checkStrip, translateFile};
+ghost use Rattle.files.specs.Entries.{bytesAfter, toldAnswer, checkBook, checkBoard, checkStrip, runBookFile, translateFile, runStripFile};
+ghost use Rattle.runs.specs.Runs.{endOf, endedAnswer};
+ghost use Rattle.plain.specs.Entry.{bookAnswer};
+ghost use Rattle.machine.specs.Entry.{stripAnswer};
 ghost use Rattle.translate.specs.Answers.{translatedAnswer};
 ghost use lib.ListN.{length};
 ghost use Rattle.book.specs.Told.{bookTold};
 ghost use Rattle.board.specs.Told.{boardTold};
 ghost use Rattle.strip.specs.Told.{stripTold};
-ghost use Rattle.engine.specs.Shown.{answerOf, shown, toldAnswer, refusedBy, atMostPlace, isNone};
+ghost use Rattle.engine.specs.Shown.{answerOf, shown, refusedBy, atMostPlace};
 
 // What every entry answers: document 01's number, the file it is about (0 none, 1 book, 2 strip, 3 board, 4 output), the last fired rule, the
 // firings done, the place in the file, the bytes written.
@@ -108,6 +115,61 @@ fn of_strip(told: StripChecked) -> Answer
     }
 }
 
+// The number of a run's end.
+fn end_number(end: End) -> u8
+    ensures { λ r. ⌜ r ≡ N.endNumber (endOf end) ⌝ }
+{
+    match end {
+        End::Quiet => 20,
+        End::Limit => 21,
+        End::Full => 22,
+        End::Spent => 23,
+        End::Stuck => 24,
+    }
+}
+
+// The answer of a run that was made.
+fn of_ended(ended: Ended) -> Answer
+    ensures { λ r. ⌜ answerOf r ≡ shown (endedAnswer ended) ⌝ }
+{
+    let end = ended.end;
+    let length = ended.length;
+    let firings = ended.firings;
+    let rule = ended.rule;
+    Answer {
+        number: end_number(end),
+        file: 0,
+        rule,
+        firings,
+        place: 0,
+        length: in_32(length),
+    }
+}
+
+// The answer of a run of a book.
+fn of_book_ran(ran: BookRan) -> Answer
+    ensures { λ r. ⌜ answerOf r ≡ shown (bookAnswer ran) ⌝ }
+{
+    match ran {
+        BookRan::Book(told) => of_book(told),
+        BookRan::Board(told) => of_board(told),
+        BookRan::Short => refusal(4, 10, 0),
+        BookRan::Ended(ended) => of_ended(ended),
+    }
+}
+
+// The answer of a run of a strip.
+fn of_strip_ran(ran: StripRan) -> Answer
+    ensures { λ r. ⌜ answerOf r ≡ shown (stripAnswer ran) ⌝ }
+{
+    match ran {
+        StripRan::Strip(told) => of_strip(told),
+        StripRan::Board(told) => of_board(told),
+        StripRan::Short => refusal(4, 10, 0),
+        StripRan::Ended(ended) => of_ended(ended),
+    }
+}
+
 // The answer of a translation.
 fn of_translated(translated: Translated) -> Answer
     ensures { λ r. ⌜ answerOf r ≡ shown (translatedAnswer translated) ⌝ }
@@ -142,34 +204,30 @@ pub extern "C" fn llwybrenu_check_strip(strip: &[u8]) -> Answer
     of_strip(strip::check_strip(strip))
 }
 
-// Does the check accept the book?
-fn accepts(told: BookChecked) -> bool
-    ensures { λ r. ⌜ r ≡ isNone (bookTold told) ⌝ }
-{
-    match told {
-        BookChecked::Accepted => true,
-        BookChecked::Cut(_) => false,
-        BookChecked::Mark(_) => false,
-        BookChecked::Place(_) => false,
-        BookChecked::Nocard(_) => false,
-        BookChecked::Bare(_) => false,
-        BookChecked::Many(_) => false,
-        BookChecked::Field(_) => false,
-        BookChecked::Loose(_) => false,
-        BookChecked::Trail(_) => false,
-    }
-}
-
 // Is the second file a board of the book that the first one is?
 #[no_mangle]
 pub extern "C" fn llwybrenu_check_board(book: &[u8], board: &[u8]) -> Answer
     ensures { λ r. ⌜ answerOf r ≡ shown (checkBoard (now (book .entry)) (now (board .entry)) .answer) ⌝ }
 {
     let told = book::check_book(book);
-    if accepts(told) {
+    if book::is_accepted(told) {
         return of_board(board::check_board(book::kinds(book), board));
     }
     of_book(told)
+}
+
+// Runs a rule book on a board, up to so many firings, and writes the board that it ends with from the start of the output.
+#[no_mangle]
+pub extern "C" fn llwybrenu_run_book(
+    book: &[u8],
+    board: &[u8],
+    limit: u16,
+    out: &mut [u8],
+) -> Answer
+    ensures { λ r. ⌜ (answerOf r ≡ shown (runBookFile (now (book .entry)) (now (board .entry)) limit (length (now (out .entry))) .answer))
+        × (now (out .exit) ≡ bytesAfter (runBookFile (now (book .entry)) (now (board .entry)) limit (length (now (out .entry)))) (now (out .entry))) ⌝ }
+{
+    of_book_ran(plain::run::run_book(book, board, limit, out))
 }
 
 // Translates a rule book into a rule strip: gives its length, and writes it from the start of the output.
@@ -179,4 +237,19 @@ pub extern "C" fn llwybrenu_translate(book: &[u8], out: &mut [u8]) -> Answer
         × (now (out .exit) ≡ bytesAfter (translateFile (now (book .entry)) (length (now (out .entry)))) (now (out .entry))) ⌝ }
 {
     of_translated(translate::translate(book, out))
+}
+
+// Runs a rule strip on a board, up to so many firings of so many steps each, and writes the board that it ends with from the start of the output.
+#[no_mangle]
+pub extern "C" fn llwybrenu_run_strip(
+    strip: &[u8],
+    board: &[u8],
+    limit: u16,
+    allowance: u64,
+    out: &mut [u8],
+) -> Answer
+    ensures { λ r. ⌜ (answerOf r ≡ shown (runStripFile (now (strip .entry)) (now (board .entry)) limit allowance (length (now (out .entry))) .answer))
+        × (now (out .exit) ≡ bytesAfter (runStripFile (now (strip .entry)) (now (board .entry)) limit allowance (length (now (out .entry)))) (now (out .entry))) ⌝ }
+{
+    of_strip_ran(machine::run::run_strip(strip, board, limit, allowance, out))
 }

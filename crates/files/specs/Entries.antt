@@ -1,6 +1,9 @@
 -- The six entries, on bytes: for every input the answer, and every byte of the output afterwards (document 01, 'Numbers a terminal may show':
 -- "Book or strip is judged first, then board, then SHORT.").
 use Prim.Native.Nat.{ℕ}
+use mathlib.Core.Path.{_≡_}
+use mathlib.Core.Bool.{Bool, true, false}
+use mathlib.Core.Option.{Option, none, some}
 use mathlib.Core.List.{List, [], _++_}
 use lib.ListN.{length, drop}
 use lib.Dec.{ltb}
@@ -9,7 +12,7 @@ use Rattle.meaning.specs.Facts.{longestBoard, longestStrip}
 use Rattle.meaning.specs.Firing.{Ran, run}
 use Rattle.meaning.specs.Words.{stripKinds, runStrip}
 use Rattle.meaning.specs.Translation.{translate}
-use Rattle.files.specs.Numbers.{SHORT, File, book, strip, board, output, Answer, refusal, acceptance, endAnswer}
+use Rattle.files.specs.Numbers.{Refusal, SHORT, File, book, strip, board, output, Answer, refusal, acceptance, endAnswer}
 use Rattle.files.specs.Judge.{Verdict, accepted, refused}
 use Rattle.files.specs.Board.{judgeBoard}
 use Rattle.files.specs.Book.{judgeBook}
@@ -29,10 +32,25 @@ nothingWritten answer = record { answer = answer; written = [] }
 unfoldable pub bytesAfter : Outcome → List ℕ → List ℕ
 bytesAfter outcome out = outcome .written ++ drop (length (outcome .written)) out
 
+-- what a call gives, by its outcome: the answer, and every byte of the output afterwards
+pub record Gives (outcome : Outcome) (out : List ℕ) (given : Answer) (outAfter : List ℕ) : Type 0 where
+  pub answer : given ≡ outcome .answer
+  pub bytes : outAfter ≡ bytesAfter outcome out
+
 -- go on with what an accepted file holds
 abbrev pub ifAccepted : {S : Type 0} → File → Verdict S → (S → Outcome) → Outcome
 ifAccepted file (accepted s) next = next s
 ifAccepted file (refused why place) next = nothingWritten (refusal file why place)
+
+-- a check that tells nothing accepts
+abbrev pub tellsNothing : Option (Refusal × ℕ) → Bool
+tellsNothing none = true
+tellsNothing (some refusal) = false
+
+-- the answer of a check, by what it tells
+abbrev pub toldAnswer : File → Option (Refusal × ℕ) → Answer
+toldAnswer file none = acceptance 0
+toldAnswer file (some (why, place)) = refusal file why place
 
 -- SHORT: "output under 4,226 bytes (translation: 44,808)", place 0
 abbrev pub ifRoom : ℕ → ℕ → Outcome → Outcome

@@ -8,3 +8,7 @@ pub mod ArgumentLaws
 pub mod MadeLaws
 pub mod CodeLaws
 pub mod BurstLaws
+pub mod LayLaws
+pub mod FiringLaws
+pub mod RunLaws
+pub mod EntryLaws

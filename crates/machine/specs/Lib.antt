@@ -2,3 +2,5 @@ pub mod Places
 pub mod Represents
 pub mod Effects
 pub mod Bursts
+pub mod Firings
+pub mod Entry

@@ -14,7 +14,7 @@ pub mod SweepGoing
 pub mod GroupLaws
 pub mod LookLaws
 pub mod SweepsLaws
-pub mod WalkLaws
+pub mod RulesLaws
 pub mod RunLaws
 pub mod EntryLaws
 pub mod AllSweepsLaws

@@ -10,9 +10,7 @@ pub mod Look
 pub mod OneSweep
 pub mod Playing
 pub mod PlayingLaws
-pub mod Plays
-pub mod Runs
-pub mod RunsLaws
-pub mod Walks
+pub mod Entry
+pub mod EntrySettles
 pub mod AllSweeps
 pub mod FireRule

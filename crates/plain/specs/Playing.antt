@@ -4,16 +4,17 @@ use Prim.Native.Nat.{ℕ, zero, suc, _+_, _≤_}
 use mathlib.Core.List.{List, [], _∷_}
 use lib.ListN.{length}
 use Rattle.meaning.specs.Basics.{if_then_else_}
-use Rattle.meaning.specs.Facts.{Kind, Board, mostRules, mostCards, mostNotices, longestBook}
+use Rattle.meaning.specs.Facts.{Kind, mostRules, mostCards, mostNotices, longestBook}
 use Rattle.meaning.specs.Firing.{quiet, full, fired, fire}
 use Rattle.meaning.specs.WellFormed.{GoodBook, GoodBoard}
 use Rattle.files.specs.Marks.{RU, isMark}
 use Rattle.files.specs.InPlace.{byteAt, ruleAt, kindsAt, bookAt}
 use Rattle.files.specs.Encode.{encodeBook}
 use Rattle.rows.specs.declared.Count.{Count}
-use Rattle.rows.specs.Held.{Sized, boardOf}
+use Rattle.rows.specs.Held.{Sized}
+use Rattle.runs.specs.Runs.{boardIn}
 use Rattle.plain.specs.Stands.{placesFrom}
-use Rattle.plain.specs.declared.firing.Rules.{Rules}
+use Rattle.plain.specs.declared.rules.Rules.{Rules}
 use Rattle.plain.specs.declared.firing.Look.{Look}
 use Rattle.plain.specs.declared.firing.Look.the-variants.{Quiet, Full, Fired}
 
@@ -37,18 +38,14 @@ pub record Playable (book : List ℕ) (kinds : List Kind) (rules : Rules) (kind 
   pub sized : Sized kind numbers
   pub fewCards : count .cards ≤ mostCards
   pub fewNotices : count .notices ≤ mostNotices
-  pub board : GoodBoard kinds (boardOf kinds kind numbers (count .cards) (count .notices))
-
--- the board that the arrays hold
-abbrev pub boardBy : List Kind → List ℕ → List ℕ → Count → Board
-boardBy kinds kind numbers count = boardOf kinds kind numbers (count .cards) (count .notices)
+  pub board : GoodBoard kinds (boardIn kinds kind numbers count)
 
 -- what it answers, by the definition of a firing; where nothing fires the board stays
 abbrev pub Looked : List ℕ → List Kind → List ℕ → List ℕ → Count → Look → List ℕ → List ℕ → Type 0
 Looked book kinds kind numbers count Quiet kind′ numbers′ =
-    Sized kind′ numbers′ × (fire (bookAt book) (boardBy kinds kind numbers count) ≡ quiet) × (boardBy kinds kind′ numbers′ count ≡ boardBy kinds kind numbers count)
+    Sized kind′ numbers′ × (fire (bookAt book) (boardIn kinds kind numbers count) ≡ quiet) × (boardIn kinds kind′ numbers′ count ≡ boardIn kinds kind numbers count)
 Looked book kinds kind numbers count Full kind′ numbers′ =
-    Sized kind′ numbers′ × (fire (bookAt book) (boardBy kinds kind numbers count) ≡ full) × (boardBy kinds kind′ numbers′ count ≡ boardBy kinds kind numbers count)
+    Sized kind′ numbers′ × (fire (bookAt book) (boardIn kinds kind numbers count) ≡ full) × (boardIn kinds kind′ numbers′ count ≡ boardIn kinds kind numbers count)
 Looked book kinds kind numbers count (Fired rule after) kind′ numbers′ =
-    Sized kind′ numbers′ × (fire (bookAt book) (boardBy kinds kind numbers count) ≡ fired rule (boardBy kinds kind′ numbers′ after))
+    Sized kind′ numbers′ × (fire (bookAt book) (boardIn kinds kind numbers count) ≡ fired rule (boardIn kinds kind′ numbers′ after))
     × (after .cards ≤ mostCards) × (after .notices ≤ mostNotices)

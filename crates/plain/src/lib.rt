@@ -3,7 +3,7 @@ mod firing;
 mod homes;
 mod lists;
 mod look;
-mod places;
+mod rules;
 pub mod run;
 mod search;
 mod tests;

@@ -84,10 +84,14 @@ rowOf f = record { kind = f .kind; numbers = fourFrom (f .numbers) 0 }
 row-equal : (k k′ : ℕ) (n n′ : List ℕ) → k ≡ k′ → n ≡ n′ → _≡_ {A = Fact} (record { kind = k; numbers = n }) (record { kind = k′; numbers = n′ })
 row-equal k k′ n n′ p q = λ i. record { kind = p i; numbers = q i }
 
+-- in arrays of any size that have the row
+pub row-placed : (kind numbers : List ℕ) (row : ℕ) (f : Fact) → row < length kind → 4 * row + 4 ≤ length numbers
+    → rowAt (set kind row (f .kind)) (withFour numbers (4 * row) (f .numbers)) row ≡ rowOf f
+row-placed kind numbers row f h l = row-equal _ _ _ _ (getD-set-same kind row (f .kind) 0 h) (four-written numbers (4 * row) (f .numbers) l)
+
 pub row-written : (kind numbers : List ℕ) (row : ℕ) (f : Fact) → Sized kind numbers → row < rowCount
     → rowAt (set kind row (f .kind)) (withFour numbers (4 * row) (f .numbers)) row ≡ rowOf f
-row-written kind numbers row f s h =
-    row-equal _ _ _ _ (getD-set-same kind row (f .kind) 0 (omega (arith, s .rows))) (four-written numbers (4 * row) (f .numbers) (omega (arith, s .places)))
+row-written kind numbers row f s h = row-placed kind numbers row f (omega (arith, s .rows)) (omega (arith, s .places))
 
 pub row-apart : (kind numbers : List ℕ) (row k : ℕ) (four : List ℕ) (r : ℕ) → (r ≡ row → ⊥)
     → rowAt (set kind row k) (withFour numbers (4 * row) four) r ≡ rowAt kind numbers r

@@ -93,6 +93,18 @@ module _ (kind numbers : List ℕ) (count : Count) (used madeKind madeNumbers : 
           (omega (arith, ap (λ (c : Count). c .cards) same, there .1), omega (arith, ap (λ (c : Count). c .notices) same, there .2))
       by false e a = let z : _≡_ {A = ℕ} 0 1 = cc in let bad : ⊥ = omega arith in absurd bad
 
+  -- FULL leaves the arrays as they were
+  pub settled-full : (kind₁ numbers₁ : List ℕ) → BoardSettled kind numbers count used madeKind madeNumbers made kind₁ numbers₁ Full → (kind₁ ≡ kind) × (numbers₁ ≡ numbers)
+  settled-full kind₁ numbers₁ b = by (roomFor kind numbers count used madeKind madeNumbers made) (b .answer) (b .kinds) (b .places)
+    where
+      new : List Fact
+      new = newCards kind numbers count used madeKind madeNumbers made
+
+      by : (t : Bool) → Full ≡ (if t then Fired (record { cards = length new; notices = count .notices + made .notices }) else Full)
+          → kind₁ ≡ (if t then kindsWith kind 0 new else kind) → numbers₁ ≡ (if t then numbersWith numbers 0 new else numbers) → (kind₁ ≡ kind) × (numbers₁ ≡ numbers)
+      by true e k n = let z : _≡_ {A = ℕ} 0 1 = cc in let bad : ⊥ = omega arith in absurd bad
+      by false e k n = (k, n)
+
 -- ---- what the arrays say of a firing
 
 -- the answer as a firing of a rule

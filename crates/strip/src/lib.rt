@@ -4,6 +4,7 @@ ghost use Prim.Native.Nat.{ℕ, _+_, _*_, _≤_, _<_};
 ghost use lib.ListN.{length};
 ghost use Rattle.meaning.specs.Facts.{longestStrip};
 ghost use Rattle.files.specs.Judge.{told};
+ghost use Rattle.files.specs.Entries.{tellsNothing};
 ghost use Rattle.files.specs.Strip.{fieldsAt, isTerm, wordIsGood, mayBeLast, earlierThanNext, judgeStrip};
 ghost use Rattle.strip.specs.Told.{stripTold, fieldsOf, earlierOf};
 ghost use Rattle.strip.specs.Leading.{leadingKinds};
@@ -171,4 +172,14 @@ pub fn kinds(strip: &[u8]) -> Kinds
         i += 1;
     }
     found
+}
+
+// Does the check accept the strip?
+pub fn is_accepted(checked: StripChecked) -> bool
+    ensures { λ r. ⌜ r ≡ tellsNothing (stripTold checked) ⌝ }
+{
+    match checked {
+        StripChecked::Accepted => true,
+        StripChecked::Refused(_) => false,
+    }
 }

@@ -10,8 +10,8 @@ use Rattle.engine.proofs.llwybrenu_check_board.Tie as tie
 check-book-requires : tie.Need-check-book-requires
 check-book-requires c κs = search needs
 
-accepts-requires : tie.Need-accepts-requires
-accepts-requires c κs = search needs
+is-accepted-requires : tie.Need-is-accepted-requires
+is-accepted-requires c κs = search needs
 
 kinds-requires : tie.Need-kinds-requires
 kinds-requires c κs = search needs
@@ -39,7 +39,7 @@ llwybrenu-check-board-spec =
     tie.close
     (tie.spec
     check-book-requires
-    accepts-requires
+    is-accepted-requires
     kinds-requires
     check-board-requires
     of-board-requires

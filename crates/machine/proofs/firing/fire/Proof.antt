@@ -1,0 +1,78 @@
+-- `fire`: an attempt that ends without a firing leaves the board; one that fires settles what it made.
+use Rattle.machine.proofs.FiringLaws.{ready-by, look-spent, look-quiet, look-full, look-stuck, fire-ready, look-over, look-fired}
+use borrow.Author.Needs.{needs}
+use Rattle.machine.proofs.firing.fire.Statement.{statement}
+use Rattle.machine.proofs.firing.fire.Tie as tie
+
+attempt-requires : tie.Need-attempt-requires
+attempt-requires c κs = (ready-by _ _ _ _ _ (c .before .before .before .before .before .pre), search needs, search needs)
+
+enum-told : tie.Need-enum-told
+enum-told c = search needs
+
+enum-told-2 : tie.Need-enum-told-2
+enum-told-2 c = search needs
+
+enum-told-3 : tie.Need-enum-told-3
+enum-told-3 c = search needs
+
+enum-told-4 : tie.Need-enum-told-4
+enum-told-4 c = search needs
+
+enum-known-turn : tie.Need-enum-known-turn
+enum-known-turn c = search needs
+
+wide16-requires : tie.Need-wide16-requires
+wide16-requires c κs = search needs
+
+wide16-requires-2 : tie.Need-wide16-requires-2
+wide16-requires-2 c κs = search needs
+
+settle-made-requires : tie.Need-settle-made-requires
+settle-made-requires c κs = fire-ready _ _ _ _ _ (c .before .before .before .before .before .before .before .before .before .before .before .before .before .before .before .before .before .before .pre) _ _ _ (c .before .before .before .before .before .before .before .before .before .before .before .before .attempt .ensures) _ _ (c .before .wide16 .ensures .0) (c .wide162 .ensures .0)
+
+enum-told-5 : tie.Need-enum-told-5
+enum-told-5 c = search needs
+
+enum-known-settled : tie.Need-enum-known-settled
+enum-known-settled c = search needs
+
+returns : tie.Need-returns
+returns c = search look-spent
+
+returns-2 : tie.Need-returns-2
+returns-2 c = search look-quiet
+
+returns-3 : tie.Need-returns-3
+returns-3 c = search look-full
+
+returns-4 : tie.Need-returns-4
+returns-4 c = search look-stuck
+
+returns-5 : tie.Need-returns-5
+returns-5 c = search look-over
+
+returns-6 : tie.Need-returns-6
+returns-6 c = search look-fired
+
+pub fire-spec : {M : Type 1} → statement M
+fire-spec =
+    tie.close
+    (tie.spec
+    attempt-requires
+    enum-told
+    enum-told-2
+    enum-told-3
+    enum-told-4
+    enum-known-turn
+    wide16-requires
+    wide16-requires-2
+    settle-made-requires
+    enum-told-5
+    enum-known-settled
+    returns
+    returns-2
+    returns-3
+    returns-4
+    returns-5
+    returns-6)

@@ -1,0 +1,201 @@
+// One firing of a strip: an attempt, and the board after it.
+use crate::Turn;
+use crate::attempt;
+use crate::wide16;
+use kinds::Kinds;
+use rows::Count;
+use rows::Settled;
+ghost use mathlib.Core.Path.{_≡_};
+ghost use Prim.Native.Nat.{ℕ, _+_, _*_, _≤_, _<_};
+ghost use lib.ListN.{length, getD, set};
+ghost use Rattle.meaning.specs.Firing.{ofClass};
+ghost use Rattle.kinds.specs.Listed.{kindsOf};
+ghost use Rattle.rows.specs.Held.{fourFrom, factsFrom, withFour};
+ghost use Rattle.rows.specs.Settles.{usedIn};
+ghost use Rattle.machine.specs.Represents.{usedOf};
+ghost use Rattle.machine.specs.Firings.{ClassLaid, MadeReady, MadeSettled, Playable, Looked};
+
+// What an attempt comes to: no rule fits; the firing would overfill the board; no step is left; a word finds nothing to go on with; or the rule, and
+// the rows after it.
+pub(in crate) enum Look {
+    Quiet,
+    Full,
+    Spent,
+    Stuck,
+    Fired(u8, Count),
+}
+
+// A made fact is copied to a row.
+fn copy_fact(
+    made_kind: &[u8; 384],
+    made_numbers: &[u16; 1536],
+    from: usize,
+    kind: &mut [u8],
+    numbers: &mut [u16],
+    to: usize,
+)
+    requires { ⌜ (from < 384) × (to < 384) × (to < length (now kind)) × (4 * to + 4 ≤ length (now numbers)) ⌝ }
+    ensures { λ _. ⌜ (now (kind .exit) ≡ set (now (kind .entry)) to (getD (now («made_kind» .entry)) from 0)) × (now (numbers .exit) ≡ withFour (now (numbers .entry)) (4 * to) (fourFrom (now («made_numbers» .entry)) (4 * from))) ⌝ }
+{
+    let at = 4 * from;
+    let row = 4 * to;
+    kind[to] = made_kind[from];
+    numbers[row] = made_numbers[at];
+    numbers[row + 1] = made_numbers[at + 1];
+    numbers[row + 2] = made_numbers[at + 2];
+    numbers[row + 3] = made_numbers[at + 3];
+}
+
+// The facts of a class among so many made ones are copied, in order, to the rows from the first on.
+fn lay(
+    kinds: Kinds,
+    card: bool,
+    made_kind: &[u8; 384],
+    made_numbers: &[u16; 1536],
+    n: usize,
+    kind: &mut [u8],
+    numbers: &mut [u16],
+    first: usize,
+)
+    requires { ⌜ (n ≤ 384) × ((j : ℕ) → j < n → getD (now «made_kind») j 0 < length (kindsOf kinds)) × (length (now kind) ≤ 384) × (length (now numbers) ≡ 4 * length (now kind)) × (first + length (ofClass (kindsOf kinds) card (factsFrom (kindsOf kinds) (now «made_kind») (now «made_numbers») 0 n)) ≤ length (now kind)) ⌝ }
+    ensures { λ _. ⌜ ClassLaid (kindsOf kinds) card (now («made_kind» .entry)) (now («made_numbers» .entry)) n first (now (kind .entry)) (now (numbers .entry)) (now (kind .exit)) (now (numbers .exit)) ⌝ }
+{
+    let mut next = 0;
+    let mut to = first;
+    while next < n {
+        let from = next;
+        next += 1;
+        if kinds.is_of_class(card, made_kind[from]) {
+            copy_fact(made_kind, made_numbers, from, kind, numbers, to);
+            to += 1;
+        }
+    }
+}
+
+// The used cards alone: a card that is only held stays.
+fn used_cards(marks: &[u8; 256]) -> [u8; 256]
+    ensures { λ r. ⌜ ((row : ℕ) → row < 256 → usedIn r row ≡ usedOf (now (marks .entry)) row) ⌝ }
+{
+    let mut used = [0u8; 256];
+    let mut next = 0;
+    while next < 256 {
+        let row = next;
+        next += 1;
+        if marks[row] == 2 {
+            used[row] = 1;
+        }
+    }
+    used
+}
+
+// The board after a firing that used those cards and made so many cards and notices. Full if there is no room.
+fn settle_made(
+    kinds: Kinds,
+    kind: &mut [u8; 384],
+    numbers: &mut [u16; 1536],
+    count: Count,
+    marks: &[u8; 256],
+    made_kind: &[u8; 384],
+    made_numbers: &[u16; 1536],
+    cards: usize,
+    notices: usize,
+) -> Settled
+    requires { ⌜ MadeReady (kindsOf kinds) (now kind) (now numbers) count (now «made_kind») (now «made_numbers») cards notices ⌝ }
+    ensures { λ r. ⌜ MadeSettled (kindsOf kinds) (now (kind .entry)) (now (numbers .entry)) count (now (marks .entry)) (now («made_kind» .entry)) (now («made_numbers» .entry)) cards notices (now (kind .exit)) (now (numbers .exit)) r ⌝ }
+{
+    let old = count.notices;
+    if 128 - old < notices {
+        return Settled::Full;
+    }
+    let mut card_kind = [0u8; 256];
+    let mut card_numbers = [0u16; 1024];
+    let n = cards + notices;
+    lay(
+        kinds,
+        true,
+        made_kind,
+        made_numbers,
+        n,
+        &mut card_kind,
+        &mut card_numbers,
+        0,
+    );
+    lay(
+        kinds,
+        false,
+        made_kind,
+        made_numbers,
+        n,
+        kind,
+        numbers,
+        256 + old,
+    );
+    let used = used_cards(marks);
+    rows::settle(
+        kind,
+        numbers,
+        count,
+        &used,
+        &card_kind,
+        &card_numbers,
+        Count {
+            cards: cards,
+            notices: notices,
+        },
+    )
+}
+
+// One attempt, with so many steps allowed, and the board after it. The board stays where nothing fires.
+pub(in crate) fn fire(
+    strip: &[u8],
+    kinds: Kinds,
+    kind: &mut [u8; 384],
+    numbers: &mut [u16; 1536],
+    count: Count,
+    allowance: u64,
+) -> Look
+    requires { ⌜ Playable (now strip) kinds (now kind) (now numbers) count ⌝ }
+    ensures { λ r. ⌜ Looked (now (strip .entry)) allowance (kindsOf kinds) (now (kind .entry)) (now (numbers .entry)) count r (now (kind .exit)) (now (numbers .exit)) ⌝ }
+{
+    let cards = count.cards;
+    let notices = count.notices;
+    let mut made_kind = [0u8; 384];
+    let mut made_numbers = [0u16; 1536];
+    let ran = attempt(
+        strip,
+        kinds,
+        kind,
+        numbers,
+        cards,
+        notices,
+        allowance,
+        &mut made_kind,
+        &mut made_numbers,
+    );
+    let state = ran.state;
+    let marks = state.marks;
+    let turn = ran.turn;
+    match turn {
+        Turn::Go(_) => Look::Spent,
+        Turn::Quiet => Look::Quiet,
+        Turn::Full => Look::Full,
+        Turn::Stuck => Look::Stuck,
+        Turn::Fire(rule) => {
+            let settled = settle_made(
+                kinds,
+                kind,
+                numbers,
+                count,
+                &marks,
+                &made_kind,
+                &made_numbers,
+                wide16(state.made_cards),
+                wide16(state.made_notices),
+            );
+            match settled {
+                Settled::Full => Look::Full,
+                Settled::Fired(after) => Look::Fired(rule, after),
+            }
+        }
+    }
+}
