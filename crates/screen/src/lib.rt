@@ -1,8 +1,11 @@
 // What a screen shows of an answer, as text in lent bytes: document 01's display. Each function puts a piece of text at a place of the output, as
 // much as fits, and gives the place after it.
+mod plain_run;
+
 use board::Board;
 use engine::Answer;
 use kinds::Kinds;
+pub use plain_run::display;
 ghost use mathlib.Core.Path.{_≡_};
 ghost use mathlib.Core.List.{[], _∷_};
 ghost use Prim.Native.Nat.{_+_, _*_, _%_, _≤_, _<_};
