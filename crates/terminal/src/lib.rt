@@ -5,6 +5,8 @@ ghost use Prim.Native.Nat.{_≤_};
 ghost use lib.ListN.{length};
 ghost use Rattle.io.specs.Counts.{Counts};
 
+// ---- reading
+
 // How many bytes of a file were read; or it could not be read.
 pub struct FileRead {
     pub bytes: usize,
@@ -92,6 +94,74 @@ pub fn read_or_empty(name: &[u8], out: &mut [u8]) -> FileRead
 {
     read(name, true, out)
 }
+
+// ---- writing: a file is written whole or not at all
+
+// May the file be replaced? It may if it is missing, or a plain file, which the system can bring to its disk; so a device never is.
+fn may_replace(name: &[u8]) -> bool {
+    let fd = os::open_update(name);
+    if fd < 0 {
+        return os::errno() == libc::ENOENT;
+    }
+    let is_plain = libc::fsync(fd) == 0;
+    libc::close(fd);
+    is_plain
+}
+
+// Puts the name with `.new` behind it at the start of the bytes, and gives its length; 0 where there is no room.
+fn new_name(name: &[u8], out: &mut [u8]) -> usize
+    ensures { λ r. ⌜ Counts r (now (out .exit)) ⌝ }
+{
+    if out.len() < 4 {
+        return 0;
+    }
+    if out.len() - 4 < name.len() {
+        return 0;
+    }
+    let n = bytes::copy(name, out);
+    out[n] = b'.';
+    out[n + 1] = b'n';
+    out[n + 2] = b'e';
+    out[n + 3] = b'w';
+    n + 4
+}
+
+// Makes a file and writes it to the disk. A name that is taken is left as it is.
+fn write_new(name: &[u8], content: &[u8]) -> bool {
+    let fd = os::create(name);
+    if fd < 0 {
+        os::fail(name);
+        return false;
+    }
+    let is_written = io::write_all(fd, content) && libc::fsync(fd) == 0;
+    if !is_written {
+        os::fail(name);
+        os::unlink(name);
+    }
+    libc::close(fd);
+    is_written
+}
+
+// Writes a file: under a new name first, which then takes the file's place. A pulled stick leaves the old file or the new one, and no torn one.
+pub fn write_file(name: &[u8], content: &[u8]) -> bool {
+    if !may_replace(name) {
+        os::fail(name);
+        return false;
+    }
+    let mut space = [0; libc::PATH_MAX + 4];
+    let n = new_name(name, &mut space);
+    if !write_new(&space[..n], content) {
+        return false;
+    }
+    if os::rename(&space[..n], name) != 0 {
+        os::fail(name);
+        os::unlink(&space[..n]);
+        return false;
+    }
+    true
+}
+
+// ---- the display
 
 // The most bytes that a display has: a line of 28 for the end, 256 of 32 for cards and 128 of 34 for notices.
 pub const SCREEN: usize = 28 + 256 * 32 + 128 * 34;
