@@ -1,0 +1,80 @@
+// The command `llwybrenu`: a word says what to do, the words after it name the files. What it finds goes to standard output; how it is used, and a
+// file that can't be read or written, to standard error. A program of Rattle has no exit status: the script `llwybrenu` of this repository gives it.
+mod arguments;
+mod checks;
+mod listing;
+mod refusals;
+mod runs_of;
+
+use arguments::is_word;
+use terminal::say;
+
+// How the command is used, to standard output or standard error.
+fn usage(fd: i32) {
+    io::write_all(fd, b"usage: llwybrenu check BOOK [BOARD]\n");
+    io::write_all(fd, b"       llwybrenu check-strip STRIP\n");
+    io::write_all(fd, b"       llwybrenu run BOOK BOARD [LIMIT] [-o FILE]\n");
+    io::write_all(
+        fd,
+        b"       llwybrenu run-strip STRIP BOARD [LIMIT] [ALLOWANCE] [-o FILE]\n",
+    );
+    io::write_all(fd, b"       llwybrenu translate BOOK -o STRIP\n");
+    io::write_all(fd, b"       llwybrenu list STRIP\n");
+    io::write_all(fd, b"       llwybrenu help\n");
+}
+
+// What the words mean.
+fn help() {
+    say(b"LIMIT: the most firings, 0 to 65535; 100 if it is left out.\n");
+    say(b"ALLOWANCE: the most steps of a firing; 1000000 if it is left out.\n");
+    say(b"-o FILE: where the board or the strip is written, after all else is done.\n");
+    say(
+        b"A run prints `fired`, the firings; `end`, 20 QUIET 21 LIMIT 22 FULL 23 SPENT 24 STUCK;\n",
+    );
+    say(b"`rule`, the last that fired, 255 if none; then each row's kind and numbers.\n");
+    say(b"Exit status: 0 accepted or ended, 1 refused, 2 no such command or file.\n");
+}
+
+// Does what the words before `-o` say; `target` is the place of the word after it, 0 where there is none. False where the words make no command.
+fn obey(words: usize, target: usize) -> bool {
+    if is_word(1, b"translate") {
+        return words == 3 && target != 0 && checks::translate(target);
+    }
+    if is_word(1, b"run") {
+        return runs_of::run(words, target);
+    }
+    if is_word(1, b"run-strip") {
+        return runs_of::run_strip(words, target);
+    }
+    if target != 0 {
+        return false;
+    }
+    if is_word(1, b"check") {
+        return checks::check(words);
+    }
+    if is_word(1, b"check-strip") {
+        return words == 3 && checks::check_strip();
+    }
+    if is_word(1, b"list") {
+        return words == 3 && listing::list();
+    }
+    if is_word(1, b"help") {
+        usage(libc::STDOUT_FILENO);
+        help();
+        return true;
+    }
+    false
+}
+
+fn main() {
+    let count = os::arg_count();
+    let mut words = count;
+    let mut target = 0;
+    if 3 < count && is_word(count - 2, b"-o") {
+        words = count - 2;
+        target = count - 1;
+    }
+    if !obey(words, target) {
+        usage(libc::STDERR_FILENO);
+    }
+}

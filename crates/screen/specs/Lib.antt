@@ -1,0 +1,4 @@
+pub mod Put
+pub mod Text
+pub mod Shows
+pub mod Displayed
