@@ -1,8 +1,7 @@
-//! Benchmarks of the Llwybrenu rule engine: a tuned implementation to compare with, the cases as
-//! files, and the proved engine behind its C boundary if it is linked.
+//! Benchmarks of the Llwybrenu rule engine: a tuned implementation to compare with, and the cases as
+//! files.
 
-pub mod answer;
+pub mod case_files;
 pub mod cases;
-pub mod engine;
 pub mod programs;
 pub mod tuned;

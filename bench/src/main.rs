@@ -3,11 +3,13 @@
 mod date;
 mod timing;
 
-use bench::answer::Answer;
-use bench::cases::{self, Case, Files, Unit, CASES};
-use bench::programs::{programs, Program};
-use bench::tuned::machine::Count;
+use bench::case_files::{longest_strip, Files};
+use bench::cases::{Case, Unit, CASES};
+use bench::programs::{programs, Engine, Program, Tuned};
 use bench::tuned::run_strip_counting;
+use bench::tuned::tally::Count;
+use llwybrenu::Answer;
+use samples::longest::{book_of_longest_board, longest_board, longest_book};
 use second::sizes::{LONGEST_BOARD, LONGEST_BOOK, LONGEST_STRIP};
 use timing::{time, Pace, Times};
 
@@ -28,31 +30,62 @@ struct Line {
 }
 
 fn main() {
-    let quick = match std::env::args().nth(1).as_deref() {
-        None => false,
-        Some("--quick") => true,
-        Some(_) => {
-            eprintln!("usage: bench [--quick]");
+    let flags: Vec<String> = std::env::args().skip(1).collect();
+    let flags: Vec<&str> = flags.iter().map(String::as_str).collect();
+    match flags.as_slice() {
+        [] => print_tables(&Pace::full()),
+        ["--quick"] => print_tables(&Pace::quick()),
+        ["--others"] => print_for_others(&Pace::quick()),
+        _ => {
+            eprintln!("usage: bench [--quick | --others]");
             std::process::exit(2);
         }
-    };
-    let pace = match quick {
-        true => Pace::quick(),
-        false => Pace::full(),
-    };
+    }
+}
+
+fn print_tables(pace: &Pace) {
     let programs = programs();
     let names: Vec<&str> = programs.iter().map(|program| program.name()).collect();
     println!("{}, {}\n", date::today(), names.join(" and "));
-    print_costs(&programs, &pace);
-    print_growth(&programs, &pace);
+    print_costs(&programs, pace);
+    print_growth(&programs, pace);
+}
+
+/// For the script `others`: its names of three cases, each with µs a run of the engine's book and
+/// strip and of the tuned book.
+fn print_for_others(pace: &Pace) {
+    let programs: [Box<dyn Program>; 2] = [Box::new(Tuned), Box::new(Engine)];
+    let named = |name| CASES.iter().find(|case| case.name == name).expect("a case");
+    for (short, name, limit) in [
+        ("hat", "hat firings", 1_000),
+        ("ring", "ring of 4, quiet", 1),
+        ("one", "short attempts", 500),
+    ] {
+        let case = named(name);
+        let lines = lines_within(case, case.rows, limit);
+        let times = lines.map(|line| measure(&[&line], &programs, pace).remove(0));
+        let [engine_book, engine_strip] = [&times[0][1], &times[1][1]];
+        let all = [engine_book, engine_strip, &times[0][0]];
+        let all = all.map(|times| format!("{:.0}", times.median / 1_000.0));
+        println!("{short} {}", all.join(" "));
+    }
 }
 
 // ---------------------------------------------------------------- what is timed
 
 /// The two lines of a case at a number of rows: the book's run and the strip's.
 fn lines(case: &Case, rows: usize) -> [Line; 2] {
-    let book_files = (case.files)(rows);
-    let strip_files = (case.files)(rows);
+    lines_within(case, rows, u16::MAX)
+}
+
+/// The same with at most so many firings.
+fn lines_within(case: &Case, rows: usize, limit: u16) -> [Line; 2] {
+    let files = || {
+        let files = (case.files)(rows);
+        let limit = files.limit.min(limit);
+        Files { limit, ..files }
+    };
+    let (book_files, strip_files) = (files(), files());
     let (firings, count) = count(&book_files);
     let (unit, units) = match case.unit {
         Unit::Row => ("row", count.rows as f64),
@@ -94,12 +127,12 @@ fn count(files: &Files) -> (u16, Count) {
 
 /// The lines of reading and translating the longest files.
 fn reading_lines() -> Vec<Line> {
-    let book = cases::longest_book();
-    let board = cases::longest_board();
-    let strip = cases::longest_strip();
+    let book = longest_book();
+    let board = longest_board();
+    let strip = longest_strip();
     let lengths = [book.len(), board.len(), strip.len()];
     assert_eq!(lengths, [LONGEST_BOOK, LONGEST_BOARD, LONGEST_STRIP]);
-    let kinds = cases::book_for_longest_board();
+    let kinds = book_of_longest_board();
     let line = |name, entry, bytes: usize, call| Line {
         name,
         entry,

@@ -1,6 +1,7 @@
 //! The programs that are compared, each behind the same six entries.
 
-use crate::answer::Answer;
+use llwybrenu::Answer;
+use samples::sides::told;
 
 /// A program with the six entries.
 pub trait Program {
@@ -54,27 +55,27 @@ impl Program for Tuned {
     }
 }
 
-/// The second program.
-pub struct Second;
+/// The proved engine.
+pub struct Engine;
 
-impl Program for Second {
+impl Program for Engine {
     fn name(&self) -> &'static str {
-        "second"
+        "engine"
     }
     fn check_book(&self, book: &[u8]) -> Answer {
-        second::check_book(book).into()
+        llwybrenu::check_book(book)
     }
     fn check_board(&self, book: &[u8], board: &[u8]) -> Answer {
-        second::check_board(book, board).into()
+        llwybrenu::check_board(book, board)
     }
     fn check_strip(&self, strip: &[u8]) -> Answer {
-        second::check_strip(strip).into()
+        llwybrenu::check_strip(strip)
     }
     fn run_book(&self, book: &[u8], board: &[u8], limit: u16, out: &mut [u8]) -> Answer {
-        second::run_book(book, board, limit, out).into()
+        llwybrenu::run_book(book, board, limit, out)
     }
     fn translate(&self, book: &[u8], out: &mut [u8]) -> Answer {
-        second::translate(book, out).into()
+        llwybrenu::translate(book, out)
     }
     fn run_strip(
         &self,
@@ -84,15 +85,45 @@ impl Program for Second {
         allowance: u64,
         out: &mut [u8],
     ) -> Answer {
-        second::run_strip(strip, board, limit, allowance, out).into()
+        llwybrenu::run_strip(strip, board, limit, allowance, out)
     }
 }
 
-/// The programs that are there; the tuned one is first.
-pub fn programs() -> Vec<Box<dyn Program>> {
-    let mut programs: Vec<Box<dyn Program>> = vec![Box::new(Tuned)];
-    #[cfg(engine)]
-    programs.push(Box::new(crate::engine::Engine));
-    programs.push(Box::new(Second));
-    programs
+/// The second program.
+pub struct Second;
+
+impl Program for Second {
+    fn name(&self) -> &'static str {
+        "second"
+    }
+    fn check_book(&self, book: &[u8]) -> Answer {
+        told(second::check_book(book))
+    }
+    fn check_board(&self, book: &[u8], board: &[u8]) -> Answer {
+        told(second::check_board(book, board))
+    }
+    fn check_strip(&self, strip: &[u8]) -> Answer {
+        told(second::check_strip(strip))
+    }
+    fn run_book(&self, book: &[u8], board: &[u8], limit: u16, out: &mut [u8]) -> Answer {
+        told(second::run_book(book, board, limit, out))
+    }
+    fn translate(&self, book: &[u8], out: &mut [u8]) -> Answer {
+        told(second::translate(book, out))
+    }
+    fn run_strip(
+        &self,
+        strip: &[u8],
+        board: &[u8],
+        limit: u16,
+        allowance: u64,
+        out: &mut [u8],
+    ) -> Answer {
+        told(second::run_strip(strip, board, limit, allowance, out))
+    }
+}
+
+/// All programs; the tuned one is first.
+pub fn programs() -> [Box<dyn Program>; 3] {
+    [Box::new(Tuned), Box::new(Engine), Box::new(Second)]
 }

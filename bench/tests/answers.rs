@@ -1,8 +1,8 @@
-//! The tuned implementation, and the engine if it is linked, give the second program's answers and
-//! bytes on its samples.
+//! The tuned implementation and the engine give the second program's answers and bytes on its
+//! samples.
 
-use bench::answer::Answer;
 use bench::programs::{programs, Program, Second};
+use llwybrenu::Answer;
 use second::samples::calls::{call, Call, Entry};
 
 /// The answer and the output of a call, the output filled with a byte before.

@@ -1,11 +1,13 @@
 //! The benchmark cases do what their names say, and the tuned implementation answers them as the
 //! second program does.
 
-use bench::answer::Answer;
-use bench::cases::{self, Files, CASES};
+use bench::case_files::{longest_strip, Files};
+use bench::cases::CASES;
 use bench::programs::{Program, Second, Tuned};
-use bench::tuned::machine::Count;
 use bench::tuned::run_strip_counting;
+use bench::tuned::tally::Count;
+use llwybrenu::Answer;
+use samples::longest::{longest_board, longest_book};
 use second::sizes::{LONGEST_BOARD, LONGEST_BOOK, LONGEST_STRIP};
 
 /// The files of the case of that name at the number of rows that it is named for.
@@ -55,6 +57,7 @@ fn ends() {
     assert_eq!(end_of("join of 3, fits late"), (21, 1));
     assert_eq!(end_of("join of 3, never fits"), (20, 0));
     assert_eq!(end_of("join of 3 by tests"), (20, 0));
+    assert_eq!(end_of("join of 4, never fits"), (20, 0));
     assert_eq!(end_of("ring of 4, quiet"), (20, 0));
     assert_eq!(end_of("sweep, all taken"), (20, 1));
     assert_eq!(end_of("sweep, none taken"), (20, 1));
@@ -73,7 +76,7 @@ fn seven_steps_an_attempt() {
 
 #[test]
 fn longest_files() {
-    assert_eq!(cases::longest_book().len(), LONGEST_BOOK);
-    assert_eq!(cases::longest_board().len(), LONGEST_BOARD);
-    assert_eq!(cases::longest_strip().len(), LONGEST_STRIP);
+    assert_eq!(longest_book().len(), LONGEST_BOOK);
+    assert_eq!(longest_board().len(), LONGEST_BOARD);
+    assert_eq!(longest_strip().len(), LONGEST_STRIP);
 }

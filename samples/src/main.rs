@@ -1,100 +1,93 @@
-//! Runs seeded samples through the engine and through the second program, and compares answers and every byte.
-//! `samples [CASES] [FIRST SEED]`; a difference prints the smallest files found that still differ, and ends with status 1.
+//! Runs seeded samples through the engine and through the second program, and compares answers and every byte; then through the engine's
+//! book and strip. A difference is made small, written to `target/differences`, and ends the program with status 1.
 
-use llwybrenu::Answer;
-use second::samples::calls::{call, Call, Entry};
-use std::time::Instant;
+use samples::calls::{calls_of, runs_of};
+use samples::shrink::{smallest, Check};
+use samples::summary::Summary;
+use samples::{agreement, report, sides};
+use second::samples::calls::Call;
+use std::ops::Range;
+use std::path::Path;
+use std::time::{Duration, Instant};
 
-/// What fills an output before a call, so that a byte written where none should be shows.
-const BEFORE: u8 = 0xA5;
+/// The seeds of the usual run.
+const USUAL: Range<u64> = 1..50_001;
+/// How often the progress is shown.
+const PROGRESS: Duration = Duration::from_secs(5);
 
-/// The engine's answer to a call and the output after it, or none for an entry that it doesn't have.
-fn engine(call: &Call) -> Option<(Answer, Vec<u8>)> {
-    let mut out = vec![BEFORE; call.room];
-    let answer = match call.entry {
-        Entry::CheckBook => llwybrenu::check_book(&call.source),
-        Entry::CheckBoard => llwybrenu::check_board(&call.source, &call.board),
-        Entry::CheckStrip => llwybrenu::check_strip(&call.source),
-        Entry::Translate => llwybrenu::translate(&call.source, &mut out),
-        Entry::RunBook | Entry::RunStrip => return None,
-    };
-    Some((answer, out))
-}
-
-/// The second program's answer, in the engine's terms, and the output after it.
-fn second(call: &Call) -> (Answer, Vec<u8>) {
-    let mut out = vec![BEFORE; call.room];
-    let answer = call.answer(&mut out);
-    let answer = Answer {
-        number: answer.number,
-        file: answer.file,
-        rule: answer.rule,
-        firings: answer.firings,
-        place: answer.place,
-        length: answer.length,
-    };
-    (answer, out)
-}
-
-fn differs(call: &Call) -> bool {
-    engine(call).is_some_and(|after| after != second(call))
-}
-
-/// The entries that a call's files go through, whatever its own is: each check without output, and a translation into one of the longest
-/// strip's length, a little more, or a byte less.
-fn entries(call: &Call, seed: u64) -> [Call; 4] {
-    let room = llwybrenu::LONGEST_STRIP + (seed % 5) as usize - 1;
-    [(Entry::CheckBook, 0), (Entry::CheckBoard, 0), (Entry::CheckStrip, 0), (Entry::Translate, room)].map(|(entry, room)| Call {
-        entry,
-        room,
-        ..call.clone()
-    })
-}
-
-/// The same call with fewer bytes, as long as it still differs.
-fn smallest(mut call: Call) -> Call {
-    loop {
-        let shorter = (0..call.source.len())
-            .map(|i| without(&call, i, true))
-            .chain((0..call.board.len()).map(|i| without(&call, i, false)))
-            .find(differs);
-        match shorter {
-            Some(next) => call = next,
-            None => return call,
-        }
+/// The seeds to go through: the usual ones, so many after them, or a single one.
+fn seeds() -> Option<Range<u64>> {
+    let words: Vec<String> = std::env::args().skip(1).collect();
+    let words: Vec<&str> = words.iter().map(String::as_str).collect();
+    match words.as_slice() {
+        [] => Some(USUAL),
+        ["--more", count] => Some(USUAL.end..USUAL.end + count.parse::<u64>().ok()?),
+        ["--seed", seed] => seed.parse().ok().map(|seed| seed..seed + 1),
+        _ => None,
     }
-}
-
-fn without(call: &Call, i: usize, source: bool) -> Call {
-    let mut next = call.clone();
-    let bytes = if source { &mut next.source } else { &mut next.board };
-    bytes.remove(i);
-    next
 }
 
 fn main() {
-    let mut words = std::env::args().skip(1).map(|w| w.parse::<u64>().expect("a number"));
-    let cases = words.next().unwrap_or(70_000);
-    let first = words.next().unwrap_or(1);
-    let began = Instant::now();
-    let mut compared = 0u64;
-    let mut by_number = [0u64; 256];
-    for seed in first..first + cases {
-        for sample in entries(&call(seed), seed) {
-            let expected = second(&sample);
-            if engine(&sample).is_some_and(|after| after != expected) {
-                let least = smallest(sample);
-                println!("seed {seed}: {:?}", least.entry);
-                println!("  book or strip {:?}\n  board {:?}", least.source, least.board);
-                println!("  engine {:?}\n  second {:?}", engine(&least).map(|after| after.0), second(&least).0);
-                std::process::exit(1);
-            }
-            by_number[expected.0.number as usize] += 1;
-            compared += 1;
+    let Some(seeds) = seeds() else {
+        eprintln!("usage: samples [--more SEEDS | --seed SEED]");
+        std::process::exit(2);
+    };
+    let (began, mut shown) = (Instant::now(), Instant::now());
+    let mut summary = Summary::default();
+    for seed in seeds.clone() {
+        compare(seed, &mut summary);
+        if shown.elapsed() > PROGRESS {
+            shown = Instant::now();
+            eprintln!(
+                "  {} of {} seeds, {} calls",
+                seed - seeds.start,
+                seeds.end - seeds.start,
+                summary.total()
+            );
         }
     }
-    println!("{compared} samples compared in {} ms, all alike", began.elapsed().as_millis());
-    for (number, count) in by_number.iter().enumerate().filter(|(_, count)| **count > 0) {
-        println!("  number {number}: {count}");
+    println!(
+        "{} calls compared in {} ms, all alike",
+        summary.total(),
+        began.elapsed().as_millis()
+    );
+    print!("{}", summary.lines());
+    let missing = summary.missing();
+    if seeds == USUAL && !missing.is_empty() {
+        println!("no sample was answered with the numbers {missing:?}");
+        std::process::exit(1);
     }
+}
+
+/// Compares all that a seed stands for.
+fn compare(seed: u64, summary: &mut Summary) {
+    let calls = calls_of(seed);
+    for call in &calls {
+        let said = [sides::engine(call), sides::second(call)];
+        if said[0] != said[1] {
+            tell(seed, call.clone(), sides::difference);
+        }
+        summary.count(call.entry, &said[1].answer);
+    }
+    for run in runs_of(&calls) {
+        if agreement::difference(&run).is_some() {
+            tell(seed, run, agreement::difference);
+        }
+        summary.agreements += 1;
+    }
+}
+
+/// Makes a difference small, writes it down, shows it and ends the program.
+fn tell(seed: u64, call: Call, check: Check) -> ! {
+    let least = smallest(call, check);
+    let difference = check(&least).expect("the smallest call differs");
+    let folder = Path::new("target/differences").join(format!("seed-{seed}-{:?}", least.entry));
+    match report::write(&folder, &least, &difference) {
+        Ok(page) => print!("seed {seed}, files in {}\n{page}", folder.display()),
+        Err(error) => println!(
+            "seed {seed}: a difference, but {} can't be written: {error}",
+            folder.display()
+        ),
+    }
+    std::process::exit(1);
 }

@@ -4,29 +4,35 @@
 //! rows of a kind are found by an index; tests are made as soon as their variables are bound; the
 //! board after a firing is made by moving the stretches of rows that stay.
 
-pub mod board;
-pub mod book;
+mod answers;
+mod atoms;
+mod board;
+mod book;
+mod cursor;
 mod index;
-pub mod machine;
-pub mod plain;
-pub mod refusal;
-pub mod sizes;
-pub mod strip;
-pub mod translate;
+mod machine;
+mod plain;
+mod read_board;
+mod read_book;
+mod sizes;
+mod strip;
+pub mod tally;
+mod translate;
 
-use crate::answer::{Answer, NO_RULE};
-use board::{read_board, Board};
-use book::{read_book, Judge};
+use answers::*;
+use board::Board;
+use llwybrenu::Answer;
 use machine::Attempted;
 use plain::{Look, Runner};
-use refusal::*;
+use read_board::read_board;
+use read_book::{read_book, Judge};
 use sizes::*;
 use strip::read_strip;
 
 /// Judges a book.
 pub fn check_book(book: &[u8]) -> Answer {
     match read_book(book, &mut Judge) {
-        Ok(_) => Answer::accepted(0),
+        Ok(_) => accepted(0),
         Err(refused) => refused.of(BOOK),
     }
 }
@@ -37,8 +43,8 @@ pub fn check_board(book: &[u8], board: &[u8]) -> Answer {
         Ok(kinds) => kinds,
         Err(refused) => return refused.of(BOOK),
     };
-    match read_board(&kinds, board, &mut board::Judge) {
-        Ok(()) => Answer::accepted(0),
+    match read_board(&kinds, board, &mut read_board::Judge) {
+        Ok(()) => accepted(0),
         Err(refused) => refused.of(BOARD),
     }
 }
@@ -46,7 +52,7 @@ pub fn check_board(book: &[u8], board: &[u8]) -> Answer {
 /// Judges a strip.
 pub fn check_strip(strip: &[u8]) -> Answer {
     match read_strip(strip, |_| {}) {
-        Ok(_) => Answer::accepted(0),
+        Ok(_) => accepted(0),
         Err(refused) => refused.of(STRIP_FILE),
     }
 }
@@ -63,7 +69,7 @@ pub fn run_book(book: &[u8], board: &[u8], limit: u16, out: &mut [u8]) -> Answer
         return refused.of(BOARD);
     }
     if out.len() < LONGEST_BOARD {
-        return Answer::refused(SHORT, OUTPUT, 0);
+        return refused(SHORT, OUTPUT, 0);
     }
     let mut runner = Runner::new(&pages, &kinds, &mut rows);
     let mut firings = 0;
@@ -82,7 +88,7 @@ pub fn run_book(book: &[u8], board: &[u8], limit: u16, out: &mut [u8]) -> Answer
         }
     };
     let length = rows.write(&kinds, out);
-    Answer::ended(end, firings, rule, length)
+    ended(end, firings, rule, length)
 }
 
 /// Translates a book and writes the strip.
@@ -92,9 +98,9 @@ pub fn translate(book: &[u8], out: &mut [u8]) -> Answer {
         Err(refused) => return refused.of(BOOK),
     };
     if out.len() < LONGEST_STRIP {
-        return Answer::refused(SHORT, OUTPUT, 0);
+        return refused(SHORT, OUTPUT, 0);
     }
-    Answer::accepted(translate::translate(&kinds, book, out))
+    accepted(translate::translate(&kinds, book, out))
 }
 
 /// Runs a strip on a board and writes the board as of the last completed firing.
@@ -109,7 +115,7 @@ pub fn run_strip_counting(
     limit: u16,
     allowance: u64,
     out: &mut [u8],
-    tally: &mut impl machine::Tally,
+    tally: &mut impl tally::Tally,
 ) -> Answer {
     let mut words = Vec::with_capacity(strip.len() / WORD_BYTES);
     let kinds = match read_strip(strip, |word| words.push(word)) {
@@ -121,7 +127,7 @@ pub fn run_strip_counting(
         return refused.of(BOARD);
     }
     if out.len() < LONGEST_BOARD {
-        return Answer::refused(SHORT, OUTPUT, 0);
+        return refused(SHORT, OUTPUT, 0);
     }
     let mut machine = machine::Machine::new(&kinds, &words, &mut rows);
     let mut firings = 0;
@@ -139,5 +145,5 @@ pub fn run_strip_counting(
         }
     };
     let length = rows.write(&kinds, out);
-    Answer::ended(end, firings, rule, length)
+    ended(end, firings, rule, length)
 }

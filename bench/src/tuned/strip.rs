@@ -1,7 +1,7 @@
 //! The strip: its one-pass reader, which judges each word by a table of bounds.
 
+use super::answers::*;
 use super::board::Kinds;
-use super::refusal::*;
 use super::sizes::*;
 
 /// The codes of the thirteen words.

@@ -11,11 +11,13 @@ use Rattle.kinds.specs.Listed.{kindsOf}
 use Rattle.rows.specs.declared.Count.{Count}
 use Rattle.runs.specs.declared.End.{End}
 use Rattle.runs.specs.declared.End.the-variants as E
+use Rattle.runs.specs.declared.Ran as R
 use Rattle.runs.specs.Runs.{endOf, boardIn, RunEnds}
 use Rattle.runs.specs.Repeats.{Going, going-start, going-limit, going-by, going-on}
 use Rattle.machine.specs.declared.firing.Look.{Look}
 use Rattle.machine.specs.declared.firing.Look.the-variants as L
 use Rattle.machine.specs.Firings.{Playable, attemptOf, Stays, Looked}
+use Rattle.machine.specs.Entry.{ranWith}
 
 pub record Running (strip : List ℕ) (kinds : Kinds) (allowance : ℕ) (start : Board) (limit : ℕ) (kind numbers : List ℕ) (count : Count) (firings rule : ℕ) : Type 0 where
   pub playable : Playable strip kinds kind numbers count
@@ -37,48 +39,48 @@ module _ (strip : List ℕ) (kinds : Kinds) (allowance : ℕ) (start : Board) (l
   abbrev whole : Ran
   whole = runStrip (wordsAt strip) limit allowance start
 
-  pub run-limit : limit ≤ firings → RunEnds whole K kind numbers (record { end = E.Limit; count = count; firings = firings; rule = rule })
+  pub run-limit : limit ≤ firings → (r : R.Ran) → r ≡ ranWith E.Limit count firings rule → RunEnds whole K kind numbers r
   unfolding runStrip
-  run-limit h = record {
+  run-limit h r q = rw q (record {
     is = going-limit (attempt (wordsAt strip) allowance) start limit before firings rule (s .going) h;
     cards = s .playable .cards;
     notices = s .playable .notices;
     sized = s .playable .sized;
-  }
+  })
 
   module _ (h : firings < limit) (look : Look) (kind′ numbers′ : List ℕ) (l : Looked strip allowance (kindsOf kinds) kind numbers count look kind′ numbers′) where
     -- an attempt that ends the run: the board stays
-    stopped : (end : End) → boardIn K kind′ numbers′ count ≡ before → ended (endOf end) before firings rule ≡ whole
-        → RunEnds whole K kind′ numbers′ (record { end = end; count = count; firings = firings; rule = rule })
-    stopped end stays e = record {
+    stopped : (end : End) → boardIn K kind′ numbers′ count ≡ before → ended (endOf end) before firings rule ≡ whole → (r : R.Ran) → r ≡ ranWith end count firings rule
+        → RunEnds whole K kind′ numbers′ r
+    stopped end stays e r q = rw q (record {
       is = ap (λ (b : Board). ended (endOf end) b firings rule) stays ∙ e;
       cards = s .playable .cards;
       notices = s .playable .notices;
       sized = l .sized;
-    }
+    })
 
     stay : (q : Look) → look ≡ q → Stays before (boardIn K kind′ numbers′ count) q
     stay q e = subst (Stays before (boardIn K kind′ numbers′ count)) e (l .stays)
 
-    pub run-quiet : look ≡ L.Quiet → RunEnds whole K kind′ numbers′ (record { end = E.Quiet; count = count; firings = firings; rule = rule })
+    pub run-quiet : look ≡ L.Quiet → (r : R.Ran) → r ≡ ranWith E.Quiet count firings rule → RunEnds whole K kind′ numbers′ r
     unfolding runStrip
     run-quiet e =
         stopped E.Quiet (stay L.Quiet e)
         (going-by (attempt (wordsAt strip) allowance) start limit before firings rule (s .going) h (attemptOf K kind′ numbers′ L.Quiet) (l .is ∙ ap (attemptOf K kind′ numbers′) e))
 
-    pub run-full : look ≡ L.Full → RunEnds whole K kind′ numbers′ (record { end = E.Full; count = count; firings = firings; rule = rule })
+    pub run-full : look ≡ L.Full → (r : R.Ran) → r ≡ ranWith E.Full count firings rule → RunEnds whole K kind′ numbers′ r
     unfolding runStrip
     run-full e =
         stopped E.Full (stay L.Full e)
         (going-by (attempt (wordsAt strip) allowance) start limit before firings rule (s .going) h (attemptOf K kind′ numbers′ L.Full) (l .is ∙ ap (attemptOf K kind′ numbers′) e))
 
-    pub run-spent : look ≡ L.Spent → RunEnds whole K kind′ numbers′ (record { end = E.Spent; count = count; firings = firings; rule = rule })
+    pub run-spent : look ≡ L.Spent → (r : R.Ran) → r ≡ ranWith E.Spent count firings rule → RunEnds whole K kind′ numbers′ r
     unfolding runStrip
     run-spent e =
         stopped E.Spent (stay L.Spent e)
         (going-by (attempt (wordsAt strip) allowance) start limit before firings rule (s .going) h (attemptOf K kind′ numbers′ L.Spent) (l .is ∙ ap (attemptOf K kind′ numbers′) e))
 
-    pub run-stuck : look ≡ L.Stuck → RunEnds whole K kind′ numbers′ (record { end = E.Stuck; count = count; firings = firings; rule = rule })
+    pub run-stuck : look ≡ L.Stuck → (r : R.Ran) → r ≡ ranWith E.Stuck count firings rule → RunEnds whole K kind′ numbers′ r
     unfolding runStrip
     run-stuck e =
         stopped E.Stuck (stay L.Stuck e)

@@ -4,3 +4,4 @@ pub mod Effects
 pub mod Bursts
 pub mod Firings
 pub mod Entry
+pub mod EntrySettles

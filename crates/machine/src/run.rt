@@ -11,6 +11,7 @@ use runs::Ended;
 use runs::Ran;
 use strip::StripChecked;
 use strip::check_strip;
+ghost use mathlib.Core.Path.{_≡_};
 ghost use lib.ListN.{length};
 ghost use Rattle.meaning.specs.Words.{runStrip};
 ghost use Rattle.files.specs.InPlace.{boardAt};
@@ -19,7 +20,7 @@ ghost use Rattle.files.specs.Entries.{Gives, runOutcome, runStripFile};
 ghost use Rattle.kinds.specs.Listed.{kindsOf};
 ghost use Rattle.runs.specs.Runs.{boardIn, RunEnds, endedAnswer};
 ghost use Rattle.machine.specs.Firings.{Playable};
-ghost use Rattle.machine.specs.Entry.{BothAccepted, stripAnswer};
+ghost use Rattle.machine.specs.Entry.{ranWith, BothAccepted, stripAnswer};
 
 // What the entry answers: the strip is refused, or the board, or the output is short; or the run was made.
 pub enum StripRan {
@@ -31,6 +32,18 @@ pub enum StripRan {
 
 // The last fired rule where none has fired.
 const NO_RULE: u8 = 255;
+
+// A run that ends so, with so many rows and firings and that rule last.
+fn stopped(end: End, count: Count, firings: u16, rule: u8) -> Ran
+    ensures { λ r. ⌜ r ≡ ranWith end count firings rule ⌝ }
+{
+    Ran {
+        end,
+        count,
+        firings,
+        rule,
+    }
+}
 
 // Attempt after attempt, each with the whole allowance, until the limit is reached or one ends without a firing.
 fn run(
@@ -51,36 +64,16 @@ fn run(
     while firings < limit {
         match fire(strip, kinds, kind, numbers, rows, allowance) {
             Look::Quiet => {
-                return Ran {
-                    end: End::Quiet,
-                    count: rows,
-                    firings,
-                    rule,
-                };
+                return stopped(End::Quiet, rows, firings, rule);
             }
             Look::Full => {
-                return Ran {
-                    end: End::Full,
-                    count: rows,
-                    firings,
-                    rule,
-                };
+                return stopped(End::Full, rows, firings, rule);
             }
             Look::Spent => {
-                return Ran {
-                    end: End::Spent,
-                    count: rows,
-                    firings,
-                    rule,
-                };
+                return stopped(End::Spent, rows, firings, rule);
             }
             Look::Stuck => {
-                return Ran {
-                    end: End::Stuck,
-                    count: rows,
-                    firings,
-                    rule,
-                };
+                return stopped(End::Stuck, rows, firings, rule);
             }
             Look::Fired(number, after) => {
                 firings += 1;
@@ -89,12 +82,7 @@ fn run(
             }
         }
     }
-    Ran {
-        end: End::Limit,
-        count: rows,
-        firings,
-        rule,
-    }
+    stopped(End::Limit, rows, firings, rule)
 }
 
 // Loads the board of accepted files, runs the strip on it and writes the board that it ends with.

@@ -1,3 +1,4 @@
 pub mod Runs
 pub mod Repeats
 pub mod Entry
+pub mod Settles

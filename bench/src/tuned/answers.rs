@@ -1,6 +1,6 @@
-//! The numbers a terminal may show, and a refusal with its place.
+//! The numbers a terminal may show, the answers with them, and a refusal with its place.
 
-use crate::answer::Answer;
+use llwybrenu::Answer;
 
 pub const CUT: u8 = 1;
 pub const MARK: u8 = 2;
@@ -25,6 +25,41 @@ pub const STRIP_FILE: u8 = 2;
 pub const BOARD: u8 = 3;
 pub const OUTPUT: u8 = 4;
 
+/// What is given as the last fired rule if none fired.
+pub const NO_RULE: u8 = 255;
+
+/// The answer of a check that accepts, or of a translation of that length.
+pub fn accepted(length: usize) -> Answer {
+    Answer {
+        number: 0,
+        file: 0,
+        rule: NO_RULE,
+        firings: 0,
+        place: 0,
+        length: length as u32,
+    }
+}
+
+/// The answer of a refusal.
+pub fn refused(number: u8, file: u8, place: usize) -> Answer {
+    Answer {
+        number,
+        file,
+        place: place as u32,
+        ..accepted(0)
+    }
+}
+
+/// The answer of a run's end.
+pub fn ended(number: u8, firings: u16, rule: u8, length: usize) -> Answer {
+    Answer {
+        number,
+        rule,
+        firings,
+        ..accepted(length)
+    }
+}
+
 /// A refusal's number and place.
 #[derive(Clone, Copy, Debug, PartialEq, Eq)]
 pub struct Refused {
@@ -36,7 +71,7 @@ impl Refused {
     /// The answer that names this file.
     #[cold]
     pub fn of(self, file: u8) -> Answer {
-        Answer::refused(self.number, file, self.place)
+        refused(self.number, file, self.place)
     }
 }
 
