@@ -6,6 +6,7 @@ use board::Board;
 use book::Book;
 use engine::Answer;
 use kinds::Kinds;
+use screen::Screen;
 use strip::Strip;
 use terminal::say;
 
@@ -29,7 +30,7 @@ fn settle(answer: Answer, kinds: Kinds, first: &[u8], board: &[u8], after: &[u8]
     if target != 0 && !crate::arguments::write(target, &after[..n]) {
         return;
     }
-    let mut text = [0; terminal::SCREEN];
+    let mut text = [0; Screen::BYTES];
     let end = screen::text(answer, kinds, &after[..n], &mut text);
     say(&text[..end]);
 }

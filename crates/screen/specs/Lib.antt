@@ -2,3 +2,4 @@ pub mod Put
 pub mod Text
 pub mod Shows
 pub mod Displayed
+pub mod Fits

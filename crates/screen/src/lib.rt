@@ -18,6 +18,14 @@ ghost use Rattle.screen.specs.Put.{reached, put as put·};
 ghost use Rattle.screen.specs.Text.{numbersText, fileText, endLine, refusalLine, boardLines, answerText};
 ghost use Rattle.screen.specs.Shows.{RowPut, RowsPut, TextPut};
 
+// The home of a screen's size.
+pub struct Screen {}
+
+impl Screen {
+    // Enough for every display: a line for the end, 256 of 32 bytes for cards and 128 of 34 for notices (Fits `display-fits`).
+    pub const BYTES: usize = 12608;
+}
+
 // The place in the output after some lines, and the place in the board after the rows that they show.
 struct Lines {
     at: usize,

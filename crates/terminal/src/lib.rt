@@ -1,6 +1,7 @@
 // Files by name, for the programs. Why a file can't be read or written is said on standard error, with its name.
 use board::Board;
 use book::Book;
+use screen::Screen;
 ghost use Prim.Native.Nat.{_≤_};
 ghost use lib.ListN.{length};
 ghost use Rattle.io.specs.Counts.{Counts};
@@ -163,9 +164,6 @@ pub fn write_file(name: &[u8], content: &[u8]) -> bool {
 
 // ---- the display
 
-// The most bytes that a display has: a line of 28 for the end, 256 of 32 for cards and 128 of 34 for notices.
-pub const SCREEN: usize = 28 + 256 * 32 + 128 * 34;
-
 // Writes a text to standard output.
 pub fn say(text: &[u8]) {
     if !io::write_all(libc::STDOUT_FILENO, text) {
@@ -188,7 +186,7 @@ pub fn show() {
     }
     let n = book_read.bytes;
     let m = board_read.bytes;
-    let mut text = [0; SCREEN];
+    let mut text = [0; Screen::BYTES];
     let end = screen::display(&book[..n], &board[..m], &mut text);
     say(&text[..end]);
 }
