@@ -5,7 +5,7 @@ mod timing;
 
 use bench::case_files::{longest_strip, Files};
 use bench::cases::{Case, Unit, CASES};
-use bench::programs::{programs, Engine, Program, Tuned};
+use bench::programs::{Program, ENGINE, PROGRAMS, TUNED};
 use bench::tuned::run_strip_counting;
 use bench::tuned::tally::Count;
 use llwybrenu::Answer;
@@ -17,7 +17,7 @@ use timing::{time, Pace, Times};
 const ALLOWANCE: u64 = u64::MAX;
 
 /// A call that each program makes.
-type Call = Box<dyn Fn(&dyn Program, &mut [u8]) -> Answer>;
+type Call = Box<dyn Fn(&Program, &mut [u8]) -> Answer>;
 
 /// One thing that is timed: a call that each program makes, and what its cost is divided by.
 struct Line {
@@ -44,8 +44,8 @@ fn main() {
 }
 
 fn print_tables(pace: &Pace) {
-    let programs = programs();
-    let names: Vec<&str> = programs.iter().map(|program| program.name()).collect();
+    let programs = PROGRAMS;
+    let names: Vec<&str> = programs.iter().map(|program| program.name).collect();
     println!("{}, {}\n", date::today(), names.join(" and "));
     print_costs(&programs, pace);
     print_growth(&programs, pace);
@@ -54,7 +54,7 @@ fn print_tables(pace: &Pace) {
 /// For the script `others`: its names of three cases, each with µs a run of the engine's book and
 /// strip and of the tuned book.
 fn print_for_others(pace: &Pace) {
-    let programs: [Box<dyn Program>; 2] = [Box::new(Tuned), Box::new(Engine)];
+    let programs = [TUNED, ENGINE];
     let named = |name| CASES.iter().find(|case| case.name == name).expect("a case");
     for (short, name, limit) in [
         ("hat", "hat firings", 1_000),
@@ -99,7 +99,7 @@ fn lines_within(case: &Case, rows: usize, limit: u16) -> [Line; 2] {
         units,
         call: Box::new(move |program, out| {
             let files = &book_files;
-            program.run_book(&files.book, &files.board, files.limit, out)
+            (program.run_book)(&files.book, &files.board, files.limit, out)
         }),
     };
     let strip = Line {
@@ -110,7 +110,7 @@ fn lines_within(case: &Case, rows: usize, limit: u16) -> [Line; 2] {
         units: count.steps as f64,
         call: Box::new(move |program, out| {
             let files = &strip_files;
-            program.run_strip(&files.strip, &files.board, files.limit, ALLOWANCE, out)
+            (program.run_strip)(&files.strip, &files.board, files.limit, ALLOWANCE, out)
         }),
     };
     [book, strip]
@@ -147,40 +147,40 @@ fn reading_lines() -> Vec<Line> {
             "reading the longest",
             "book",
             lengths[0],
-            Box::new(move |program, _| program.check_book(&book)),
+            Box::new(move |program, _| (program.check_book)(&book)),
         ),
         line(
             "reading the longest",
             "board",
             lengths[1],
-            Box::new(move |program, _| program.check_board(&kinds, &board)),
+            Box::new(move |program, _| (program.check_board)(&kinds, &board)),
         ),
         line(
             "reading the longest",
             "strip",
             lengths[2],
-            Box::new(move |program, _| program.check_strip(&strip)),
+            Box::new(move |program, _| (program.check_strip)(&strip)),
         ),
         line(
             "translating the longest",
             "book",
             lengths[0],
-            Box::new(move |program, out| program.translate(&same_book, out)),
+            Box::new(move |program, out| (program.translate)(&same_book, out)),
         ),
     ]
 }
 
 /// Panics unless all programs give the same answer and bytes.
-fn compare(line: &Line, programs: &[Box<dyn Program>]) {
+fn compare(line: &Line, programs: &[Program]) {
     let made: Vec<(Answer, Vec<u8>)> = programs
         .iter()
         .map(|program| {
             let mut out = vec![0xA5; LONGEST_STRIP];
-            ((line.call)(&**program, &mut out), out)
+            ((line.call)(program, &mut out), out)
         })
         .collect();
     for (program, other) in programs.iter().zip(&made) {
-        let name = program.name();
+        let name = program.name;
         let case = (line.name, line.entry, line.rows);
         assert_eq!(other.0, made[0].0, "answer of {name} in {case:?}");
         assert!(other.1 == made[0].1, "output of {name} in {case:?}");
@@ -189,12 +189,12 @@ fn compare(line: &Line, programs: &[Box<dyn Program>]) {
 
 /// Compares the programs' answers, then times them, all lines in the same rounds; gives for each
 /// line the programs' times.
-fn measure(lines: &[&Line], programs: &[Box<dyn Program>], pace: &Pace) -> Vec<Vec<Times>> {
+fn measure(lines: &[&Line], programs: &[Program], pace: &Pace) -> Vec<Vec<Times>> {
     lines.iter().for_each(|line| compare(line, programs));
     let mut out = vec![0; LONGEST_STRIP];
     let mut times = time(pace, lines.len() * programs.len(), |turn| {
         let (line, program) = (turn / programs.len(), turn % programs.len());
-        std::hint::black_box((lines[line].call)(&*programs[program], &mut out));
+        std::hint::black_box((lines[line].call)(&programs[program], &mut out));
     });
     let mut by_line = Vec::new();
     for _ in lines {
@@ -206,11 +206,11 @@ fn measure(lines: &[&Line], programs: &[Box<dyn Program>], pace: &Pace) -> Vec<V
 // ---------------------------------------------------------------- the tables
 
 /// The table of costs at the number of rows that each case is named for.
-fn print_costs(programs: &[Box<dyn Program>], pace: &Pace) {
+fn print_costs(programs: &[Program], pace: &Pace) {
     let mut head = String::from("| case | entry | rows | units | tuned, ns a run |");
     let mut rule = String::from("|---|---|--:|--:|--:|");
     for (number, program) in programs.iter().enumerate() {
-        let name = program.name();
+        let name = program.name;
         head += &format!(" {name}, ns a unit |");
         rule += "--:|";
         if number > 0 {
@@ -241,7 +241,7 @@ fn print_costs(programs: &[Box<dyn Program>], pace: &Pace) {
 }
 
 /// The table of how cost grows with the number of rows.
-fn print_growth(programs: &[Box<dyn Program>], pace: &Pace) {
+fn print_growth(programs: &[Program], pace: &Pace) {
     println!("\nGrowth: ns a unit at an eighth, a quarter, a half and all of the rows; then how many times");
     println!("as many units and as much time the last takes as the first.\n");
     println!("| case | entry | rows | program | 1/8 | 1/4 | 1/2 | 1 | units | time |");
@@ -253,7 +253,7 @@ fn print_growth(programs: &[Box<dyn Program>], pace: &Pace) {
             let times = measure(&lines, programs, pace);
             for (number, program) in programs.iter().enumerate() {
                 let (name, entry, rows) = (case.name, lines[0].entry, case.sizes[3]);
-                print!("| {name} | {entry} | {rows} | {} |", program.name());
+                print!("| {name} | {entry} | {rows} | {} |", program.name);
                 for (line, times) in lines.iter().zip(&times) {
                     print!(" {} |", short(times[number].median / line.units));
                 }

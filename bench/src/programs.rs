@@ -1,129 +1,56 @@
-//! The programs that are compared, each behind the same six entries.
+//! The programs that are compared, each with the same six entries.
 
 use llwybrenu::Answer;
 use samples::sides::told;
 
+type RunBook = fn(&[u8], &[u8], u16, &mut [u8]) -> Answer;
+type RunStrip = fn(&[u8], &[u8], u16, u64, &mut [u8]) -> Answer;
+
 /// A program with the six entries.
-pub trait Program {
-    fn name(&self) -> &'static str;
-    fn check_book(&self, book: &[u8]) -> Answer;
-    fn check_board(&self, book: &[u8], board: &[u8]) -> Answer;
-    fn check_strip(&self, strip: &[u8]) -> Answer;
-    fn run_book(&self, book: &[u8], board: &[u8], limit: u16, out: &mut [u8]) -> Answer;
-    fn translate(&self, book: &[u8], out: &mut [u8]) -> Answer;
-    fn run_strip(
-        &self,
-        strip: &[u8],
-        board: &[u8],
-        limit: u16,
-        allowance: u64,
-        out: &mut [u8],
-    ) -> Answer;
+pub struct Program {
+    pub name: &'static str,
+    pub check_book: fn(&[u8]) -> Answer,
+    pub check_board: fn(&[u8], &[u8]) -> Answer,
+    pub check_strip: fn(&[u8]) -> Answer,
+    pub run_book: RunBook,
+    pub translate: fn(&[u8], &mut [u8]) -> Answer,
+    pub run_strip: RunStrip,
 }
 
 /// The tuned implementation.
-pub struct Tuned;
-
-impl Program for Tuned {
-    fn name(&self) -> &'static str {
-        "tuned"
-    }
-    fn check_book(&self, book: &[u8]) -> Answer {
-        crate::tuned::check_book(book)
-    }
-    fn check_board(&self, book: &[u8], board: &[u8]) -> Answer {
-        crate::tuned::check_board(book, board)
-    }
-    fn check_strip(&self, strip: &[u8]) -> Answer {
-        crate::tuned::check_strip(strip)
-    }
-    fn run_book(&self, book: &[u8], board: &[u8], limit: u16, out: &mut [u8]) -> Answer {
-        crate::tuned::run_book(book, board, limit, out)
-    }
-    fn translate(&self, book: &[u8], out: &mut [u8]) -> Answer {
-        crate::tuned::translate(book, out)
-    }
-    fn run_strip(
-        &self,
-        strip: &[u8],
-        board: &[u8],
-        limit: u16,
-        allowance: u64,
-        out: &mut [u8],
-    ) -> Answer {
-        crate::tuned::run_strip(strip, board, limit, allowance, out)
-    }
-}
+pub const TUNED: Program = Program {
+    name: "tuned",
+    check_book: crate::tuned::check_book,
+    check_board: crate::tuned::check_board,
+    check_strip: crate::tuned::check_strip,
+    run_book: crate::tuned::run_book,
+    translate: crate::tuned::translate,
+    run_strip: crate::tuned::run_strip,
+};
 
 /// The proved engine.
-pub struct Engine;
-
-impl Program for Engine {
-    fn name(&self) -> &'static str {
-        "engine"
-    }
-    fn check_book(&self, book: &[u8]) -> Answer {
-        llwybrenu::check_book(book)
-    }
-    fn check_board(&self, book: &[u8], board: &[u8]) -> Answer {
-        llwybrenu::check_board(book, board)
-    }
-    fn check_strip(&self, strip: &[u8]) -> Answer {
-        llwybrenu::check_strip(strip)
-    }
-    fn run_book(&self, book: &[u8], board: &[u8], limit: u16, out: &mut [u8]) -> Answer {
-        llwybrenu::run_book(book, board, limit, out)
-    }
-    fn translate(&self, book: &[u8], out: &mut [u8]) -> Answer {
-        llwybrenu::translate(book, out)
-    }
-    fn run_strip(
-        &self,
-        strip: &[u8],
-        board: &[u8],
-        limit: u16,
-        allowance: u64,
-        out: &mut [u8],
-    ) -> Answer {
-        llwybrenu::run_strip(strip, board, limit, allowance, out)
-    }
-}
+pub const ENGINE: Program = Program {
+    name: "engine",
+    check_book: llwybrenu::check_book,
+    check_board: llwybrenu::check_board,
+    check_strip: llwybrenu::check_strip,
+    run_book: llwybrenu::run_book,
+    translate: llwybrenu::translate,
+    run_strip: llwybrenu::run_strip,
+};
 
 /// The second program.
-pub struct Second;
-
-impl Program for Second {
-    fn name(&self) -> &'static str {
-        "second"
-    }
-    fn check_book(&self, book: &[u8]) -> Answer {
-        told(second::check_book(book))
-    }
-    fn check_board(&self, book: &[u8], board: &[u8]) -> Answer {
-        told(second::check_board(book, board))
-    }
-    fn check_strip(&self, strip: &[u8]) -> Answer {
-        told(second::check_strip(strip))
-    }
-    fn run_book(&self, book: &[u8], board: &[u8], limit: u16, out: &mut [u8]) -> Answer {
-        told(second::run_book(book, board, limit, out))
-    }
-    fn translate(&self, book: &[u8], out: &mut [u8]) -> Answer {
-        told(second::translate(book, out))
-    }
-    fn run_strip(
-        &self,
-        strip: &[u8],
-        board: &[u8],
-        limit: u16,
-        allowance: u64,
-        out: &mut [u8],
-    ) -> Answer {
+pub const SECOND: Program = Program {
+    name: "second",
+    check_book: |book| told(second::check_book(book)),
+    check_board: |book, board| told(second::check_board(book, board)),
+    check_strip: |strip| told(second::check_strip(strip)),
+    run_book: |book, board, limit, out| told(second::run_book(book, board, limit, out)),
+    translate: |book, out| told(second::translate(book, out)),
+    run_strip: |strip, board, limit, allowance, out| {
         told(second::run_strip(strip, board, limit, allowance, out))
-    }
-}
+    },
+};
 
 /// All programs; the tuned one is first.
-pub fn programs() -> [Box<dyn Program>; 3] {
-    [Box::new(Tuned), Box::new(Engine), Box::new(Second)]
-}
+pub const PROGRAMS: [Program; 3] = [TUNED, ENGINE, SECOND];

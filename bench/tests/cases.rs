@@ -3,7 +3,7 @@
 
 use bench::case_files::{longest_strip, Files};
 use bench::cases::CASES;
-use bench::programs::{Program, Second, Tuned};
+use bench::programs::{SECOND, TUNED};
 use bench::tuned::run_strip_counting;
 use bench::tuned::tally::Count;
 use llwybrenu::Answer;
@@ -41,11 +41,11 @@ fn equal_answers_at_every_size() {
             let mut outs = [vec![0xA5; LONGEST_BOARD], vec![0xA5; LONGEST_BOARD]];
             let [tuned, second] = &mut outs;
             let (book, board, limit) = (&files.book, &files.board, files.limit);
-            let expected = Second.run_book(book, board, limit, second);
-            assert_eq!(Tuned.run_book(book, board, limit, tuned), expected);
+            let expected = (SECOND.run_book)(book, board, limit, second);
+            assert_eq!((TUNED.run_book)(book, board, limit, tuned), expected);
             assert!(tuned == second, "book's output in {}", case.name);
             tuned.fill(0xA5);
-            let by_strip = Tuned.run_strip(&files.strip, board, limit, u64::MAX, tuned);
+            let by_strip = (TUNED.run_strip)(&files.strip, board, limit, u64::MAX, tuned);
             assert_eq!(by_strip, expected);
             assert!(tuned == second, "strip's output in {}", case.name);
         }
