@@ -3,3 +3,4 @@ pub mod Text
 pub mod Shows
 pub mod Displayed
 pub mod Fits
+pub mod Examples
