@@ -4,6 +4,7 @@ pub mod Loads
 pub mod LoadsLaws
 pub mod Settles
 pub mod SettlesLaws
+pub mod Stretches
 pub mod Writes
 pub mod WritesLaws
 pub mod Examples
