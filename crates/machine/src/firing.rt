@@ -6,6 +6,8 @@ use kinds::Kinds;
 use rows::Count;
 use rows::Settled;
 ghost use mathlib.Core.Path.{_≡_};
+ghost use mathlib.Core.Bool.{not};
+ghost use lib.Dec.{eqb};
 ghost use Prim.Native.Nat.{ℕ, _+_, _*_, _≤_, _<_};
 ghost use lib.ListN.{length, getD, set};
 ghost use Rattle.meaning.specs.Firing.{ofClass};
@@ -72,7 +74,17 @@ fn lay(
     }
 }
 
-// The used cards alone: a card that is only held stays.
+// A card's mark as a byte that is not 0 where the card is used: a card that is only held stays.
+fn used_byte(mark: u8) -> u8
+    ensures { λ r. ⌜ not (eqb r 0) ≡ eqb mark 2 ⌝ }
+{
+    if mark == 2 {
+        return 1;
+    }
+    0
+}
+
+// The used cards alone. (Every byte is stored, so that many are made at once.)
 fn used_cards(marks: &[u8; 256]) -> [u8; 256]
     ensures { λ r. ⌜ ((row : ℕ) → row < 256 → usedIn r row ≡ usedOf (now (marks .entry)) row) ⌝ }
 {
@@ -81,9 +93,7 @@ fn used_cards(marks: &[u8; 256]) -> [u8; 256]
     while next < 256 {
         let row = next;
         next += 1;
-        if marks[row] == 2 {
-            used[row] = 1;
-        }
+        used[row] = used_byte(marks[row]);
     }
     used
 }
