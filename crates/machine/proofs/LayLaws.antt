@@ -20,7 +20,6 @@ use Rattle.rows.specs.HeldLaws.{four-length, row-placed, rows-before, facts-mor
 use Rattle.rows.specs.Settles.{usedIn}
 use Rattle.machine.specs.Represents.{usedOf}
 use Rattle.machine.specs.Firings.{madeFacts, ClassLaid}
-use Rattle.machine.proofs.BurstLaws.{same-read}
 
 -- ---- a fact of the class, or of the other
 
@@ -166,44 +165,36 @@ module _ (kinds : List Kind) (card : Bool) (madeKind madeNumbers : List ℕ) (n 
 
 -- ---- the used cards
 
--- the marks before the next are taken over, those from it on are not set yet
+-- the marks before the next are taken over
 pub record Using (marks used : List ℕ) (next : ℕ) : Type 0 where
   pub turn : next ≤ 256
   pub size : length used ≡ 256
   pub done : (row : ℕ) → row < next → usedIn used row ≡ usedOf marks row
-  pub free : (row : ℕ) → next ≤ row → getD used row 0 ≡ 0
 
-module _ (marks used : List ℕ) (next : ℕ) (l : Using marks used next) (h : next < 256) where
-  pub using-pass : (getD marks next 0 ≡ 2 → ⊥) → Using marks used (next + 1)
-  using-pass e = record {
-    turn = omega arith;
-    size = l .size;
-    done = λ row b. by row b (ℕ-discrete row next);
-    free = λ row b. l .free row (omega arith);
-  }
-    where
-      by : (row : ℕ) → row < next + 1 → Dec (row ≡ next) → usedIn used row ≡ usedOf marks row
-      by row b (yes q) = rw (q, l .free next (omega arith), ne-eqb (getD marks next 0) 2 e)
-      by row b (no q) = l .done row (omega (arith, q))
+-- a mark as a byte
+pub byte-used : (mark : ℕ) → mark ≡ 2 → not (eqb 1 0) ≡ eqb mark 2
+byte-used mark e = rw (eq-eqb mark 2 e)
 
-  pub using-set : getD marks next 0 ≡ 2 → (used′ : List ℕ) → used′ ≡ set used next 1 → Using marks used′ (next + 1)
-  using-set e used′ p = rw p (record {
-    turn = omega arith;
-    size = length-set used next 1 ∙ l .size;
-    done = λ row b. by row b (ℕ-discrete row next);
-    free = λ row b. getD-set-other used next row 1 0 (λ q. omega arith) ∙ l .free row (omega arith);
-  })
-    where
-      by : (row : ℕ) → row < next + 1 → Dec (row ≡ next) → usedIn (set used next 1) row ≡ usedOf marks row
-      by row b (yes q) = rw (q, getD-set-same used next 1 0 (omega (arith, l .size)), eq-eqb (getD marks next 0) 2 e)
-      by row b (no q) = ap (λ (x : ℕ). not (eqb x 0)) (getD-set-other used next row 1 0 q) ∙ l .done row (omega (arith, q))
+pub byte-free : (mark : ℕ) → (mark ≡ 2 → ⊥) → not (eqb 0 0) ≡ eqb mark 2
+byte-free mark n = rw (ne-eqb mark 2 n)
+
+pub using-put : (marks used : List ℕ) (next : ℕ) → Using marks used next → next < 256 → (v : ℕ) → not (eqb v 0) ≡ eqb (getD marks next 0) 2
+    → (used′ : List ℕ) → used′ ≡ set used next v → Using marks used′ (next + 1)
+using-put marks used next l h v e used′ p = rw p (record {
+  turn = omega arith;
+  size = length-set used next v ∙ l .size;
+  done = λ row b. by row b (ℕ-discrete row next);
+})
+  where
+    by : (row : ℕ) → row < next + 1 → Dec (row ≡ next) → usedIn (set used next v) row ≡ usedOf marks row
+    by row b (yes q) = rw (q, getD-set-same used next v 0 (omega (arith, l .size))) e
+    by row b (no q) = ap (λ (x : ℕ). not (eqb x 0)) (getD-set-other used next row v 0 q) ∙ l .done row (omega (arith, q))
 
 pub using-start : (marks : List ℕ) → Using marks (replicate 256 0) 0
 using-start marks = record {
   turn = omega arith;
   size = length-replicate {A = ℕ} 256 0;
   done = λ row b. let bad : ⊥ = omega arith in absurd bad;
-  free = λ row b. same-read 256 0 row;
 }
 
 pub using-end : (marks used : List ℕ) (next : ℕ) → Using marks used next → 256 ≤ next → (row : ℕ) → row < 256 → usedIn used row ≡ usedOf marks row

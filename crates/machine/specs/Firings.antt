@@ -83,6 +83,13 @@ pub record Playable (strip : List ℕ) (kinds : Kinds) (kind numbers : List ℕ)
   pub notices : count .notices ≤ mostNotices
   pub declared : AllDeclared (kindsOf kinds) (boardIn (kindsOf kinds) kind numbers count)
 
+-- the arrays that are lent for made facts, and for the made cards alone
+pub record Lent (madeKind madeNumbers cardKind cardNumbers : List ℕ) : Type 0 where
+  pub rows : length madeKind ≡ 384
+  pub places : length madeNumbers ≡ 1536
+  pub cardRows : length cardKind ≡ 256
+  pub cardPlaces : length cardNumbers ≡ 1024
+
 -- the attempt that the answer stands for, with the board that the arrays hold afterwards
 abbrev pub attemptOf : List Kind → List ℕ → List ℕ → Look → Attempt
 attemptOf kinds kind numbers Quiet = done quiet

@@ -6,6 +6,8 @@ use kinds::Kinds;
 use rows::Count;
 use rows::Settled;
 ghost use mathlib.Core.Path.{_≡_};
+ghost use mathlib.Core.Bool.{not};
+ghost use lib.Dec.{eqb};
 ghost use Prim.Native.Nat.{ℕ, _+_, _*_, _≤_, _<_};
 ghost use lib.ListN.{length, getD, set};
 ghost use Rattle.meaning.specs.Firing.{ofClass};
@@ -13,7 +15,7 @@ ghost use Rattle.kinds.specs.Listed.{kindsOf};
 ghost use Rattle.rows.specs.Held.{fourFrom, factsFrom, withFour};
 ghost use Rattle.rows.specs.Settles.{usedIn};
 ghost use Rattle.machine.specs.Represents.{usedOf};
-ghost use Rattle.machine.specs.Firings.{ClassLaid, MadeReady, MadeSettled, Playable, Looked};
+ghost use Rattle.machine.specs.Firings.{ClassLaid, MadeReady, MadeSettled, Playable, Looked, Lent};
 
 // What an attempt comes to: no rule fits; the firing would overfill the board; no step is left; a word finds nothing to go on with; or the rule, and
 // the rows after it.
@@ -72,7 +74,17 @@ fn lay(
     }
 }
 
-// The used cards alone: a card that is only held stays.
+// A card's mark as a byte that is not 0 where the card is used: a card that is only held stays.
+fn used_byte(mark: u8) -> u8
+    ensures { λ r. ⌜ not (eqb r 0) ≡ eqb mark 2 ⌝ }
+{
+    if mark == 2 {
+        return 1;
+    }
+    0
+}
+
+// The used cards alone. (Every byte is stored, so that many are made at once.)
 fn used_cards(marks: &[u8; 256]) -> [u8; 256]
     ensures { λ r. ⌜ ((row : ℕ) → row < 256 → usedIn r row ≡ usedOf (now (marks .entry)) row) ⌝ }
 {
@@ -81,14 +93,13 @@ fn used_cards(marks: &[u8; 256]) -> [u8; 256]
     while next < 256 {
         let row = next;
         next += 1;
-        if marks[row] == 2 {
-            used[row] = 1;
-        }
+        used[row] = used_byte(marks[row]);
     }
     used
 }
 
-// The board after a firing that used those cards and made so many cards and notices. Full if there is no room.
+// The board after a firing that used those cards and made so many cards and notices. Full if there is no room. The made cards are laid out in the lent
+// arrays, whatever they hold.
 fn settle_made(
     kinds: Kinds,
     kind: &mut [u8; 384],
@@ -99,16 +110,16 @@ fn settle_made(
     made_numbers: &[u16; 1536],
     cards: usize,
     notices: usize,
+    card_kind: &mut [u8; 256],
+    card_numbers: &mut [u16; 1024],
 ) -> Settled
-    requires { ⌜ MadeReady (kindsOf kinds) (now kind) (now numbers) count (now «made_kind») (now «made_numbers») cards notices ⌝ }
-    ensures { λ r. ⌜ MadeSettled (kindsOf kinds) (now (kind .entry)) (now (numbers .entry)) count (now (marks .entry)) (now («made_kind» .entry)) (now («made_numbers» .entry)) cards notices (now (kind .exit)) (now (numbers .exit)) r ⌝ }
+    requires { ⌜ MadeReady (kindsOf kinds) (now kind) (now numbers) count (now «made_kind») (now «made_numbers») cards notices × (length (now «card_kind») ≡ 256) × (length (now «card_numbers») ≡ 1024) ⌝ }
+    ensures { λ r. ⌜ MadeSettled (kindsOf kinds) (now (kind .entry)) (now (numbers .entry)) count (now (marks .entry)) (now («made_kind» .entry)) (now («made_numbers» .entry)) cards notices (now (kind .exit)) (now (numbers .exit)) r × (length (now («card_kind» .exit)) ≡ 256) × (length (now («card_numbers» .exit)) ≡ 1024) ⌝ }
 {
     let old = count.notices;
     if 128 - old < notices {
         return Settled::Full;
     }
-    let mut card_kind = [0u8; 256];
-    let mut card_numbers = [0u16; 1024];
     let n = cards + notices;
     lay(
         kinds,
@@ -116,8 +127,8 @@ fn settle_made(
         made_kind,
         made_numbers,
         n,
-        &mut card_kind,
-        &mut card_numbers,
+        card_kind,
+        card_numbers,
         0,
     );
     lay(
@@ -136,8 +147,8 @@ fn settle_made(
         numbers,
         count,
         &used,
-        &card_kind,
-        &card_numbers,
+        card_kind,
+        card_numbers,
         Count {
             cards: cards,
             notices: notices,
@@ -145,7 +156,8 @@ fn settle_made(
     )
 }
 
-// One attempt, with so many steps allowed, and the board after it. The board stays where nothing fires.
+// One attempt, with so many steps allowed, and the board after it. The board stays where nothing fires. The lent arrays are for made facts, whatever
+// they hold: to clear them would cost more than a short attempt.
 pub(in crate) fn fire(
     strip: &[u8],
     kinds: Kinds,
@@ -153,14 +165,16 @@ pub(in crate) fn fire(
     numbers: &mut [u16; 1536],
     count: Count,
     allowance: u64,
+    made_kind: &mut [u8; 384],
+    made_numbers: &mut [u16; 1536],
+    card_kind: &mut [u8; 256],
+    card_numbers: &mut [u16; 1024],
 ) -> Look
-    requires { ⌜ Playable (now strip) kinds (now kind) (now numbers) count ⌝ }
-    ensures { λ r. ⌜ Looked (now (strip .entry)) allowance (kindsOf kinds) (now (kind .entry)) (now (numbers .entry)) count r (now (kind .exit)) (now (numbers .exit)) ⌝ }
+    requires { ⌜ Playable (now strip) kinds (now kind) (now numbers) count × Lent (now «made_kind») (now «made_numbers») (now «card_kind») (now «card_numbers») ⌝ }
+    ensures { λ r. ⌜ Looked (now (strip .entry)) allowance (kindsOf kinds) (now (kind .entry)) (now (numbers .entry)) count r (now (kind .exit)) (now (numbers .exit)) × Lent (now («made_kind» .exit)) (now («made_numbers» .exit)) (now («card_kind» .exit)) (now («card_numbers» .exit)) ⌝ }
 {
     let cards = count.cards;
     let notices = count.notices;
-    let mut made_kind = [0u8; 384];
-    let mut made_numbers = [0u16; 1536];
     let ran = attempt(
         strip,
         kinds,
@@ -169,8 +183,8 @@ pub(in crate) fn fire(
         cards,
         notices,
         allowance,
-        &mut made_kind,
-        &mut made_numbers,
+        made_kind,
+        made_numbers,
     );
     let state = ran.state;
     let marks = state.marks;
@@ -187,10 +201,12 @@ pub(in crate) fn fire(
                 numbers,
                 count,
                 &marks,
-                &made_kind,
-                &made_numbers,
+                made_kind,
+                made_numbers,
                 wide16(state.made_cards),
                 wide16(state.made_notices),
+                card_kind,
+                card_numbers,
             );
             match settled {
                 Settled::Full => Look::Full,

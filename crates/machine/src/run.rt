@@ -58,11 +58,26 @@ fn run(
     requires { ⌜ Playable (now strip) kinds (now kind) (now numbers) count ⌝ }
     ensures { λ r. ⌜ RunEnds (runStrip (wordsAt (now (strip .entry))) limit allowance (boardIn (kindsOf kinds) (now (kind .entry)) (now (numbers .entry)) count)) (kindsOf kinds) (now (kind .exit)) (now (numbers .exit)) r ⌝ }
 {
+    let mut made_kind = [0u8; 384];
+    let mut made_numbers = [0u16; 1536];
+    let mut card_kind = [0u8; 256];
+    let mut card_numbers = [0u16; 1024];
     let mut rows = count;
     let mut firings: u16 = 0;
     let mut rule = NO_RULE;
     while firings < limit {
-        match fire(strip, kinds, kind, numbers, rows, allowance) {
+        match fire(
+            strip,
+            kinds,
+            kind,
+            numbers,
+            rows,
+            allowance,
+            &mut made_kind,
+            &mut made_numbers,
+            &mut card_kind,
+            &mut card_numbers,
+        ) {
             Look::Quiet => {
                 return stopped(End::Quiet, rows, firings, rule);
             }

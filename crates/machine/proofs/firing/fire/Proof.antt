@@ -5,7 +5,7 @@ use Rattle.machine.proofs.firing.fire.Statement.{statement}
 use Rattle.machine.proofs.firing.fire.Tie as tie
 
 attempt-requires : tie.Need-attempt-requires
-attempt-requires c κs = (ready-by _ _ _ _ _ (c .before .before .before .before .before .pre), search needs, search needs)
+attempt-requires c κs = (ready-by _ _ _ _ _ (c .before .before .before .before .before .pre .0), c .before .before .before .before .before .pre .1 .rows, c .before .before .before .before .before .pre .1 .places)
 
 enum-told : tie.Need-enum-told
 enum-told c = search needs
@@ -29,7 +29,7 @@ wide16-requires-2 : tie.Need-wide16-requires-2
 wide16-requires-2 c κs = search needs
 
 settle-made-requires : tie.Need-settle-made-requires
-settle-made-requires c κs = fire-ready _ _ _ _ _ (c .before .before .before .before .before .before .before .before .before .before .before .before .before .before .before .before .before .before .pre) _ _ _ (c .before .before .before .before .before .before .before .before .before .before .before .before .attempt .ensures) _ _ (c .before .wide16 .ensures .0) (c .wide162 .ensures .0)
+settle-made-requires c κs = (fire-ready _ _ _ _ _ (c .before .before .before .before .before .before .before .before .before .before .before .before .before .before .before .before .before .before .before .before .pre .0) _ _ _ (c .before .before .before .before .before .before .before .before .before .before .before .before .before .before .attempt .ensures) _ _ (c .before .before .before .wide16 .ensures .0) (c .before .before .wide162 .ensures .0), c .before .before .before .before .before .before .before .before .before .before .before .before .before .before .before .before .before .before .before .before .pre .1 .cardRows, c .before .before .before .before .before .before .before .before .before .before .before .before .before .before .before .before .before .before .before .before .pre .1 .cardPlaces)
 
 enum-told-5 : tie.Need-enum-told-5
 enum-told-5 c = search needs
@@ -38,22 +38,32 @@ enum-known-settled : tie.Need-enum-known-settled
 enum-known-settled c = search needs
 
 returns : tie.Need-returns
-returns c = search look-spent
+returns c = (search look-spent, search needs)
 
 returns-2 : tie.Need-returns-2
-returns-2 c = search look-quiet
+returns-2 c = (search look-quiet, search needs)
 
 returns-3 : tie.Need-returns-3
-returns-3 c = search look-full
+returns-3 c = (search look-full, search needs)
 
 returns-4 : tie.Need-returns-4
-returns-4 c = search look-stuck
+returns-4 c = (search look-stuck, search needs)
 
 returns-5 : tie.Need-returns-5
-returns-5 c = search look-over
+returns-5 c =
+    let ran = c .before .before .before .before .before .before .before .before .before .before .before .before .before .before .before .before .before .attempt .ensures in
+    let settled = c .before .before .settle-made .ensures in (
+      search (look-over, c .before .before .before .before .before .before .before .before .before .before .before .before .before .before .before .before .before .before .before .before .before .before .before .pre .0),
+      record { rows = ran .madeKindSize; places = ran .madeNumbersSize; cardRows = settled .1; cardPlaces = settled .2 },
+    )
 
 returns-6 : tie.Need-returns-6
-returns-6 c = search look-fired
+returns-6 c =
+    let ran = c .before .before .before .before .before .before .before .before .before .before .before .before .before .before .before .before .before .before .attempt .ensures in
+    let settled = c .before .before .before .settle-made .ensures in (
+      search (look-fired, c .before .before .before .before .before .before .before .before .before .before .before .before .before .before .before .before .before .before .before .before .before .before .before .before .pre .0),
+      record { rows = ran .madeKindSize; places = ran .madeNumbersSize; cardRows = settled .1; cardPlaces = settled .2 },
+    )
 
 pub fire-spec : {M : Type 1} → statement M
 fire-spec =

@@ -1,7 +1,7 @@
--- `used_cards`: the marks behind are taken over, those ahead are not set. The measure: how many are left.
+-- `used_cards`: the marks behind are taken over. The measure: how many are left.
 use borrow.Author.Needs.{needs}
 use Prim.Native.Nat.{_-_}
-use Rattle.machine.proofs.LayLaws.{Using, using-start, using-pass, using-set, using-end}
+use Rattle.machine.proofs.LayLaws.{Using, using-start, using-put, using-end}
 use Rattle.machine.proofs.firing.used_cards.Statement.{statement}
 use Rattle.machine.proofs.firing.used_cards.Tie as tie
 
@@ -17,8 +17,11 @@ loop-holds c = search using-start
 add-next : tie.Need-add-next Inv-loop μ-loop
 add-next c = search needs
 
-element-copy-out-if1 : tie.Need-element-copy-out-if1 Inv-loop μ-loop
-element-copy-out-if1 c = search needs
+element-copy-out-used-byte : tie.Need-element-copy-out-used-byte Inv-loop μ-loop
+element-copy-out-used-byte c = search needs
+
+used-byte-requires : tie.Need-used-byte-requires Inv-loop μ-loop
+used-byte-requires c κs = search needs
 
 array-write-used : tie.Need-array-write-used Inv-loop μ-loop
 array-write-used c = search needs
@@ -27,13 +30,7 @@ loop-less : tie.Need-loop-less Inv-loop μ-loop
 loop-less c = search needs
 
 loop-again : tie.Need-loop-again Inv-loop μ-loop
-loop-again c = search using-set
-
-loop-less-2 : tie.Need-loop-less-2 Inv-loop μ-loop
-loop-less-2 c = search needs
-
-loop-again-2 : tie.Need-loop-again-2 Inv-loop μ-loop
-loop-again-2 c = search using-pass
+loop-again c = search using-put
 
 returns : tie.Need-returns Inv-loop μ-loop
 returns c = search using-end
@@ -46,10 +43,9 @@ used-cards-spec =
     μ-loop
     loop-holds
     add-next
-    element-copy-out-if1
+    element-copy-out-used-byte
+    used-byte-requires
     array-write-used
     loop-less
     loop-again
-    loop-less-2
-    loop-again-2
     returns)

@@ -1,21 +1,23 @@
 -- `run`: to go on from here is the whole run. The measure: how many firings are left.
 use borrow.Author.Needs.{needs}
 use Prim.Native.Nat.{_-_}
+use mathlib.Core.Path.{refl}
 use Rattle.kinds.specs.Listed.{kindsOf}
 use Rattle.runs.specs.Runs.{boardIn}
+use Rattle.machine.specs.Firings.{Lent}
 use Rattle.machine.proofs.RunLaws.{Running, run-start, run-quiet, run-full, run-spent, run-stuck, run-fired, run-limit}
 use Rattle.machine.proofs.run.run.Statement.{statement}
 use Rattle.machine.proofs.run.run.Tie as tie
 
 abbrev Inv-loop : tie.InvT-loop
-Inv-loop strip kinds kind₀ numbers₀ limit allowance rows₀ firings₀ rule₀ kind numbers rows firings rule =
-    Running strip kinds allowance (boardIn (kindsOf kinds) kind₀ numbers₀ rows₀) limit kind numbers rows firings rule
+Inv-loop strip kinds kind₀ numbers₀ limit allowance made-kind₀ made-numbers₀ card-kind₀ card-numbers₀ rows₀ firings₀ rule₀ kind numbers made-kind made-numbers card-kind card-numbers rows firings rule =
+    Running strip kinds allowance (boardIn (kindsOf kinds) kind₀ numbers₀ rows₀) limit kind numbers rows firings rule × Lent made-kind made-numbers card-kind card-numbers
 
 abbrev μ-loop : tie.MeasureT-loop
-μ-loop strip kinds kind₀ numbers₀ limit allowance rows₀ firings₀ rule₀ kind numbers rows firings rule = limit - firings
+μ-loop strip kinds kind₀ numbers₀ limit allowance made-kind₀ made-numbers₀ card-kind₀ card-numbers₀ rows₀ firings₀ rule₀ kind numbers made-kind made-numbers card-kind card-numbers rows firings rule = limit - firings
 
 loop-holds : tie.Need-loop-holds Inv-loop μ-loop
-loop-holds c = search run-start
+loop-holds c = (search run-start, record { rows = refl; places = refl; cardRows = refl; cardPlaces = refl })
 
 fire-requires : tie.Need-fire-requires Inv-loop μ-loop
 fire-requires c κs = search needs
@@ -66,7 +68,7 @@ loop-less : tie.Need-loop-less Inv-loop μ-loop
 loop-less c = search needs
 
 loop-again : tie.Need-loop-again Inv-loop μ-loop
-loop-again c = search run-fired
+loop-again c = (search run-fired, search needs)
 
 stopped-requires-5 : tie.Need-stopped-requires-5 Inv-loop μ-loop
 stopped-requires-5 c κs = search needs
