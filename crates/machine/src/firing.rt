@@ -2,6 +2,7 @@
 use crate::Turn;
 use crate::attempt;
 use crate::wide16;
+use board::Board;
 use kinds::Kinds;
 use rows::Count;
 use rows::Settled;
@@ -90,7 +91,7 @@ fn used_cards(marks: &[u8; 256]) -> [u8; 256]
 {
     let mut used = [0u8; 256];
     let mut next = 0;
-    while next < 256 {
+    while next < Board::CARDS {
         let row = next;
         next += 1;
         used[row] = used_byte(marks[row]);
@@ -117,7 +118,7 @@ fn settle_made(
     ensures { λ r. ⌜ MadeSettled (kindsOf kinds) (now (kind .entry)) (now (numbers .entry)) count (now (marks .entry)) (now («made_kind» .entry)) (now («made_numbers» .entry)) cards notices (now (kind .exit)) (now (numbers .exit)) r × (length (now («card_kind» .exit)) ≡ 256) × (length (now («card_numbers» .exit)) ≡ 1024) ⌝ }
 {
     let old = count.notices;
-    if 128 - old < notices {
+    if Board::NOTICES - old < notices {
         return Settled::Full;
     }
     let n = cards + notices;
@@ -139,7 +140,7 @@ fn settle_made(
         n,
         kind,
         numbers,
-        256 + old,
+        Board::CARDS + old,
     );
     let used = used_cards(marks);
     rows::settle(
