@@ -12,12 +12,11 @@ use Rattle.rows.specs.declared.Count.{Count}
 use Rattle.runs.specs.declared.End.{End}
 use Rattle.runs.specs.declared.End.the-variants as E
 use Rattle.runs.specs.declared.Ran as R
-use Rattle.runs.specs.Runs.{endOf, boardIn, RunEnds}
+use Rattle.runs.specs.Runs.{endOf, boardIn, RunEnds, ranWith}
 use Rattle.runs.specs.Repeats.{Going, going-start, going-limit, going-by, going-on}
 use Rattle.machine.specs.declared.firing.Look.{Look}
 use Rattle.machine.specs.declared.firing.Look.the-variants as L
 use Rattle.machine.specs.Firings.{Playable, attemptOf, Stays, Looked}
-use Rattle.machine.specs.Entry.{ranWith}
 
 pub record Running (strip : List ℕ) (kinds : Kinds) (allowance : ℕ) (start : Board) (limit : ℕ) (kind numbers : List ℕ) (count : Count) (firings rule : ℕ) : Type 0 where
   pub playable : Playable strip kinds kind numbers count

@@ -10,17 +10,10 @@ use Rattle.kinds.specs.declared.Kinds.{Kinds}
 use Rattle.kinds.specs.Listed.{kindsOf}
 use Rattle.board.specs.Told.{boardTold}
 use Rattle.strip.specs.Told.{stripTold}
-use Rattle.rows.specs.declared.Count.{Count}
-use Rattle.runs.specs.declared.End.{End}
-use Rattle.runs.specs.declared.Ran.{Ran}
 use Rattle.runs.specs.Runs.{endedAnswer}
 use Rattle.machine.specs.declared.run.StripRan.{StripRan}
 use Rattle.machine.specs.declared.run.StripRan.the-variants as A
 use Rattle.machine.specs.Firings.{Known}
-
--- a run's answer by its parts
-abbrev pub ranWith : End → Count → ℕ → ℕ → Ran
-ranWith end count firings rule = record { end = end; count = count; firings = firings; rule = rule }
 
 -- both files are accepted, and the output has room for every board
 pub record BothAccepted (stripFile : List ℕ) (kinds : Kinds) (boardFile : List ℕ) (room : ℕ) : Type 0 where

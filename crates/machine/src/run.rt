@@ -9,6 +9,7 @@ use rows::Count;
 use runs::End;
 use runs::Ended;
 use runs::Ran;
+use runs::stopped;
 use strip::StripChecked;
 use strip::check_strip;
 ghost use mathlib.Core.Path.{_≡_};
@@ -20,7 +21,7 @@ ghost use Rattle.files.specs.Entries.{Gives, runOutcome, runStripFile};
 ghost use Rattle.kinds.specs.Listed.{kindsOf};
 ghost use Rattle.runs.specs.Runs.{boardIn, RunEnds, endedAnswer};
 ghost use Rattle.machine.specs.Firings.{Playable};
-ghost use Rattle.machine.specs.Entry.{ranWith, BothAccepted, stripAnswer};
+ghost use Rattle.machine.specs.Entry.{BothAccepted, stripAnswer};
 
 // What the entry answers: the strip is refused, or the board, or the output is short; or the run was made.
 pub enum StripRan {
@@ -28,21 +29,6 @@ pub enum StripRan {
     Board(BoardChecked),
     Short,
     Ended(Ended),
-}
-
-// The last fired rule where none has fired.
-const NO_RULE: u8 = 255;
-
-// A run that ends so, with so many rows and firings and that rule last.
-fn stopped(end: End, count: Count, firings: u16, rule: u8) -> Ran
-    ensures { λ r. ⌜ r ≡ ranWith end count firings rule ⌝ }
-{
-    Ran {
-        end,
-        count,
-        firings,
-        rule,
-    }
 }
 
 // Attempt after attempt, each with the whole allowance, until the limit is reached or one ends without a firing.
@@ -64,7 +50,7 @@ fn run(
     let mut card_numbers = [0u16; 1024];
     let mut rows = count;
     let mut firings: u16 = 0;
-    let mut rule = NO_RULE;
+    let mut rule = Ran::NO_RULE;
     while firings < limit {
         match fire(
             strip,

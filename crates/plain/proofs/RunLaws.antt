@@ -10,7 +10,8 @@ use Rattle.files.specs.InPlace.{bookAt}
 use Rattle.firings.specs.Keeping.{firing-keeps-good}
 use Rattle.rows.specs.declared.Count.{Count}
 use Rattle.runs.specs.declared.End.the-variants as E
-use Rattle.runs.specs.Runs.{boardIn, RunEnds}
+use Rattle.runs.specs.declared.Ran as R
+use Rattle.runs.specs.Runs.{boardIn, ranWith, RunEnds}
 use Rattle.runs.specs.Repeats.{Going, going-start, going-limit, going-by, going-on}
 use Rattle.plain.specs.declared.rules.Rules.{Rules}
 use Rattle.plain.specs.declared.firing.Look.{Look}
@@ -35,40 +36,40 @@ module _ (book : List ℕ) (kinds : List Kind) (rules : Rules) (start : Board) (
   abbrev before : Board
   before = boardIn kinds kind numbers count
 
-  pub run-limit : limit ≤ firings → RunEnds (run (bookAt book) limit start) kinds kind numbers (record { end = E.Limit; count = count; firings = firings; rule = rule })
+  pub run-limit : limit ≤ firings → (r : R.Ran) → r ≡ ranWith E.Limit count firings rule → RunEnds (run (bookAt book) limit start) kinds kind numbers r
   unfolding run
-  run-limit h = record {
+  run-limit h r q = rw q (record {
     is = going-limit (attempts book) start limit before firings rule (s .going) h;
     cards = s .playable .fewCards;
     notices = s .playable .fewNotices;
     sized = s .playable .sized;
-  }
+  })
 
   module _ (h : firings < limit) (look : Look) (kind′ numbers′ : List ℕ) (l : Looked book kinds kind numbers count look kind′ numbers′) where
     known : (q : Look) → look ≡ q → Looked book kinds kind numbers count q kind′ numbers′
     known q e = subst (λ (q : Look). Looked book kinds kind numbers count q kind′ numbers′) e l
 
-    pub run-quiet : look ≡ L.Quiet → RunEnds (run (bookAt book) limit start) kinds kind′ numbers′ (record { end = E.Quiet; count = count; firings = firings; rule = rule })
+    pub run-quiet : look ≡ L.Quiet → (r : R.Ran) → r ≡ ranWith E.Quiet count firings rule → RunEnds (run (bookAt book) limit start) kinds kind′ numbers′ r
     unfolding run
-    run-quiet e =
+    run-quiet e r q =
         let (sized, is, stays) = known L.Quiet e in
-        record {
+        rw q (record {
           is = ap (λ (b : Board). ended Quiet b firings rule) stays ∙ going-by (attempts book) start limit before firings rule (s .going) h (done quiet) (ap done is);
           cards = s .playable .fewCards;
           notices = s .playable .fewNotices;
           sized = sized;
-        }
+        })
 
-    pub run-full : look ≡ L.Full → RunEnds (run (bookAt book) limit start) kinds kind′ numbers′ (record { end = E.Full; count = count; firings = firings; rule = rule })
+    pub run-full : look ≡ L.Full → (r : R.Ran) → r ≡ ranWith E.Full count firings rule → RunEnds (run (bookAt book) limit start) kinds kind′ numbers′ r
     unfolding run
-    run-full e =
+    run-full e r q =
         let (sized, is, stays) = known L.Full e in
-        record {
+        rw q (record {
           is = ap (λ (b : Board). ended Full b firings rule) stays ∙ going-by (attempts book) start limit before firings rule (s .going) h (done full) (ap done is);
           cards = s .playable .fewCards;
           notices = s .playable .fewNotices;
           sized = sized;
-        }
+        })
 
     module _ (number : ℕ) (count′ : Count) (e : look ≡ L.Fired number count′) where
       -- a firing of a good book on a good board leaves a good board

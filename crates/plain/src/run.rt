@@ -13,6 +13,7 @@ use rows::Count;
 use runs::End;
 use runs::Ended;
 use runs::Ran;
+use runs::stopped;
 ghost use mathlib.Core.Path.{_≡_};
 ghost use Prim.Native.Nat.{_≤_};
 ghost use lib.ListN.{length};
@@ -33,9 +34,6 @@ pub enum BookRan {
     Ended(Ended),
 }
 
-// The last fired rule where none has fired.
-const NO_RULE: u8 = 255;
-
 // Firing after firing, until the limit is reached, no rule fits or the board is full.
 fn run(
     book: &[u8],
@@ -51,24 +49,14 @@ fn run(
 {
     let mut rows = count;
     let mut firings: u16 = 0;
-    let mut rule = NO_RULE;
+    let mut rule = Ran::NO_RULE;
     while firings < limit {
         match fire(book, kinds, rules, kind, numbers, rows) {
             Look::Quiet => {
-                return Ran {
-                    end: End::Quiet,
-                    count: rows,
-                    firings,
-                    rule,
-                };
+                return stopped(End::Quiet, rows, firings, rule);
             }
             Look::Full => {
-                return Ran {
-                    end: End::Full,
-                    count: rows,
-                    firings,
-                    rule,
-                };
+                return stopped(End::Full, rows, firings, rule);
             }
             Look::Fired(number, after) => {
                 firings += 1;
@@ -77,12 +65,7 @@ fn run(
             }
         }
     }
-    Ran {
-        end: End::Limit,
-        count: rows,
-        firings,
-        rule,
-    }
+    stopped(End::Limit, rows, firings, rule)
 }
 
 // Loads the board of accepted files, runs the book on it and writes the board that it ends with.

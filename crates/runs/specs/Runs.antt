@@ -23,6 +23,10 @@ endOf E.Stuck = F.Stuck
 abbrev pub boardIn : List Kind → List ℕ → List ℕ → Count → Board
 boardIn kinds kind numbers count = boardOf kinds kind numbers (count .cards) (count .notices)
 
+-- a run's answer by its parts
+abbrev pub ranWith : End → Count → ℕ → ℕ → Ran
+ranWith end count firings rule = record { end = end; count = count; firings = firings; rule = rule }
+
 -- the run that the answer and the arrays stand for
 abbrev pub ranIn : List Kind → List ℕ → List ℕ → Ran → F.Ran
 ranIn kinds kind numbers r = F.ended (endOf (r .end)) (boardIn kinds kind numbers (r .count)) (r .firings) (r .rule)

@@ -22,11 +22,17 @@ fire-requires c κs = search needs
 enum-told : tie.Need-enum-told Inv-loop μ-loop
 enum-told c = search needs
 
+stopped-requires : tie.Need-stopped-requires Inv-loop μ-loop
+stopped-requires c κs = search needs
+
 returns : tie.Need-returns Inv-loop μ-loop
 returns c = search run-quiet
 
 enum-told-2 : tie.Need-enum-told-2 Inv-loop μ-loop
 enum-told-2 c = search needs
+
+stopped-requires-2 : tie.Need-stopped-requires-2 Inv-loop μ-loop
+stopped-requires-2 c κs = search needs
 
 returns-2 : tie.Need-returns-2 Inv-loop μ-loop
 returns-2 c = search run-full
@@ -43,6 +49,9 @@ loop-less c = search needs
 loop-again : tie.Need-loop-again Inv-loop μ-loop
 loop-again c = search run-fired
 
+stopped-requires-3 : tie.Need-stopped-requires-3 Inv-loop μ-loop
+stopped-requires-3 c κs = search needs
+
 returns-3 : tie.Need-returns-3 Inv-loop μ-loop
 returns-3 c = search run-limit
 
@@ -55,11 +64,14 @@ run-spec =
     loop-holds
     fire-requires
     enum-told
+    stopped-requires
     returns
     enum-told-2
+    stopped-requires-2
     returns-2
     enum-known-number
     add-firings
     loop-less
     loop-again
+    stopped-requires-3
     returns-3)
