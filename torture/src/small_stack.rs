@@ -7,7 +7,7 @@ use samples::calls::ENTRIES;
 use second::samples::calls::Call;
 
 /// The stack that docs/TERMINALS.md names, in bytes.
-const NAMED: usize = 32 * 1024;
+const NAMED: usize = 16 * 1024;
 /// A stack on which everything surely fits, to measure on.
 const AMPLE: usize = 1024 * 1024;
 /// Stacks are made of so many bytes at a time.
