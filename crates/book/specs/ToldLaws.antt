@@ -2,6 +2,8 @@
 use Prim.Native.Nat.{ℕ}
 use mathlib.Core.Path.{_≡_, refl, sym, ap, _∙_}
 use mathlib.Core.Option.{Option, none, some}
+use lib.Dec.{eqb}
+use Rattle.meaning.specs.Basics.{if_then_else_}
 use Rattle.files.specs.Numbers.{Refusal, CUT, MARK, PLACE, NOCARD, BARE, MANY, FIELD, LOOSE, TRAIL, SHORT, STRIP}
 use Rattle.book.specs.Told.{bookTold}
 use Rattle.book.specs.declared.BookChecked.{BookChecked}
@@ -39,3 +41,16 @@ answer-back (C.Trail place) = refl
 
 pub told-settles : (a b : BookChecked) → bookTold a ≡ bookTold b → a ≡ b
 told-settles a b e = answer-back a ∙ ap answerFor e ∙ sym (answer-back b)
+
+-- the refusal with that number
+abbrev pub refusedFor : ℕ → ℕ → BookChecked
+refusedFor number place =
+    if eqb number 1 then C.Cut place
+    else if eqb number 2 then C.Mark place
+    else if eqb number 3 then C.Place place
+    else if eqb number 4 then C.Nocard place
+    else if eqb number 5 then C.Bare place
+    else if eqb number 6 then C.Many place
+    else if eqb number 7 then C.Field place
+    else if eqb number 8 then C.Loose place
+    else C.Trail place

@@ -1,3 +1,4 @@
 pub mod Written
 pub mod Contracts
 pub mod Answers
+pub mod AnswersSettle
