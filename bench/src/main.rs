@@ -218,6 +218,12 @@ fn print_costs(programs: &[Program], pace: &Pace) {
             rule += "--:|";
         }
     }
+    let place = |name| programs.iter().position(|program| program.name == name);
+    let engine_and_usual = place("engine").zip(place("usual"));
+    if engine_and_usual.is_some() {
+        head += " engine / usual |";
+        rule += "--:|";
+    }
     println!("{head}\n{rule}");
     let cases = CASES.iter().flat_map(|case| lines(case, case.rows));
     for line in cases.chain(reading_lines()) {
@@ -235,6 +241,9 @@ fn print_costs(programs: &[Program], pace: &Pace) {
             if number > 0 {
                 print!(" {:.2} |", times.ratio);
             }
+        }
+        if let Some((engine, usual)) = engine_and_usual {
+            print!(" {:.2} |", times[engine].ratio / times[usual].ratio);
         }
         println!();
     }

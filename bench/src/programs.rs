@@ -28,6 +28,14 @@ pub const TUNED: Program = Program {
     run_strip: crate::tuned::run_strip,
 };
 
+/// The usual implementation, with the tuned one's readers.
+pub const USUAL: Program = Program {
+    name: "usual",
+    run_book: crate::usual::run_book,
+    run_strip: crate::usual::run_strip,
+    ..TUNED
+};
+
 /// The proved engine.
 pub const ENGINE: Program = Program {
     name: "engine",
@@ -53,4 +61,4 @@ pub const SECOND: Program = Program {
 };
 
 /// All programs; the tuned one is first.
-pub const PROGRAMS: [Program; 3] = [TUNED, ENGINE, SECOND];
+pub const PROGRAMS: [Program; 4] = [TUNED, USUAL, ENGINE, SECOND];

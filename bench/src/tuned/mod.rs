@@ -4,18 +4,18 @@
 //! rows of a kind are found by an index; tests are made as soon as their variables are bound; the
 //! board after a firing is made by moving the stretches of rows that stay.
 
-mod answers;
+pub(crate) mod answers;
 mod atoms;
-mod board;
+pub(crate) mod board;
 mod book;
 mod cursor;
 mod index;
 mod machine;
 mod plain;
-mod read_board;
-mod read_book;
-mod sizes;
-mod strip;
+pub(crate) mod read_board;
+pub(crate) mod read_book;
+pub(crate) mod sizes;
+pub(crate) mod strip;
 pub mod tally;
 mod translate;
 
