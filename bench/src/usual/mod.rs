@@ -27,7 +27,10 @@ pub fn run_book(file: &[u8], board: &[u8], limit: u16, out: &mut [u8]) -> Answer
         Ok(kinds) => kinds,
         Err(refused) => return refused.of(BOOK),
     };
-    run(&kinds, board, limit, out, |rows| book::look(&book, rows))
+    let mut scratch = book::Scratch::new();
+    run(&kinds, board, limit, out, |rows| {
+        book::look(&book, rows, &mut scratch)
+    })
 }
 
 /// Runs a strip on a board and writes the board as of the last completed firing.
@@ -37,8 +40,9 @@ pub fn run_strip(file: &[u8], board: &[u8], limit: u16, allowance: u64, out: &mu
         Ok(kinds) => kinds,
         Err(refused) => return refused.of(STRIP_FILE),
     };
+    let mut state = strip::State::new();
     run(&kinds, board, limit, out, |rows| {
-        strip::look(&kinds, &words, rows, allowance)
+        strip::look(&kinds, &words, rows, allowance, &mut state)
     })
 }
 

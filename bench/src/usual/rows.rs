@@ -36,6 +36,52 @@ impl read_board::Rows for Rows {
     }
 }
 
+/// The rows of each kind, in order, in one list; where each kind's stand; and for each row its place there.
+pub struct Index {
+    pub list: [u16; CARDS + NOTICES],
+    pub spans: [(u16, u16); KINDS],
+    pub cards: [u16; CARDS],
+    pub notices: [u16; NOTICES],
+}
+
+impl Index {
+    /// No rows.
+    pub fn new() -> Index {
+        Index {
+            list: [0; CARDS + NOTICES],
+            spans: [(0, 0); KINDS],
+            cards: [0; CARDS],
+            notices: [0; NOTICES],
+        }
+    }
+
+    /// Lists the rows of a board: counts those of each kind, then puts each in its place.
+    pub fn fill(&mut self, rows: &Rows) {
+        self.spans = [(0, 0); KINDS];
+        for row in rows.cards.iter().chain(&rows.notices) {
+            self.spans[usize::from(row.kind)].1 += 1;
+        }
+        let mut next = 0;
+        for span in &mut self.spans {
+            let count = span.1;
+            *span = (next, next);
+            next += count;
+        }
+        let places = [
+            (&rows.cards, &mut self.cards[..]),
+            (&rows.notices, &mut self.notices[..]),
+        ];
+        for (rows, places) in places {
+            for (number, row) in rows.iter().enumerate() {
+                let end = &mut self.spans[usize::from(row.kind)].1;
+                self.list[usize::from(*end)] = number as u16;
+                places[number] = *end;
+                *end += 1;
+            }
+        }
+    }
+}
+
 /// What a firing used and made so far.
 pub struct Work {
     pub used: [bool; CARDS],
@@ -49,6 +95,13 @@ impl Work {
             used: [false; CARDS],
             made: Rows::default(),
         }
+    }
+
+    /// Forgets it all.
+    pub fn clear(&mut self) {
+        self.used = [false; CARDS];
+        self.made.cards.clear();
+        self.made.notices.clear();
     }
 
     /// Adds a made fact; false if it's one more than a board holds.
@@ -69,17 +122,6 @@ impl Rows {
             true => &self.cards,
             false => &self.notices,
         }
-    }
-
-    /// The numbers of the rows of each kind, in order.
-    pub fn index(&self) -> [Vec<u16>; KINDS] {
-        let mut index: [Vec<u16>; KINDS] = std::array::from_fn(|_| Vec::new());
-        for rows in [&self.cards, &self.notices] {
-            for (number, row) in rows.iter().enumerate() {
-                index[usize::from(row.kind)].push(number as u16);
-            }
-        }
-        index
     }
 
     /// The board after a firing; false, and no change, if that is more than it holds.
