@@ -1,4 +1,4 @@
-//! Rust as one would usually tune it: state changed in place, rows of a kind by an index that is made for each firing, tests made as soon as their
+//! Rust as one would usually write it, no yardstick: state changed in place, rows of a kind by an index that is made for each firing, tests made as soon as their
 //! variables are bound. The files are read by the tuned program's readers; only the runs are its own.
 
 mod book;
