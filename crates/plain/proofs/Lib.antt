@@ -5,6 +5,7 @@ pub mod TestLaws
 pub mod ListLaws
 pub mod LoopLaws
 pub mod Going
+pub mod AloneLaws
 pub mod HomeLaws
 pub mod MakeLaws
 pub mod ListsLaws
