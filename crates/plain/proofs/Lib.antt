@@ -3,6 +3,7 @@ pub mod FitLaws
 pub mod RowFit
 pub mod TestLaws
 pub mod ListLaws
+pub mod OthersLaws
 pub mod LoopLaws
 pub mod Going
 pub mod AloneLaws
