@@ -3,8 +3,10 @@ pub mod FitLaws
 pub mod RowFit
 pub mod TestLaws
 pub mod ListLaws
+pub mod OthersLaws
 pub mod LoopLaws
 pub mod Going
+pub mod AloneLaws
 pub mod HomeLaws
 pub mod MakeLaws
 pub mod ListsLaws

@@ -40,6 +40,12 @@ pub record Playable (book : List ℕ) (kinds : List Kind) (rules : Rules) (kind 
   pub fewNotices : count .notices ≤ mostNotices
   pub board : GoodBoard kinds (boardIn kinds kind numbers count)
 
+-- the arrays that are lent to each firing, whatever they hold: for the lists of rows, and for the made cards
+pub record Lent (list madeKind madeNumbers : List ℕ) : Type 0 where
+  pub listed : length list ≡ 384
+  pub rows : length madeKind ≡ 256
+  pub places : length madeNumbers ≡ 1024
+
 -- what it answers, by the definition of a firing; where nothing fires the board stays
 abbrev pub Looked : List ℕ → List Kind → List ℕ → List ℕ → Count → Look → List ℕ → List ℕ → Type 0
 Looked book kinds kind numbers count Quiet kind′ numbers′ =

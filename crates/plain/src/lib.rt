@@ -1,8 +1,10 @@
 // The plain runner of a rule book.
+mod alone;
 mod firing;
 mod homes;
 mod lists;
 mod look;
+mod others;
 mod rules;
 pub mod run;
 mod search;

@@ -47,11 +47,24 @@ fn run(
     requires { ⌜ Playable (now book) (kindsOf kinds) rules (now kind) (now numbers) count × (kinds .count ≤ mostKinds) ⌝ }
     ensures { λ r. ⌜ RunEnds (F.run (bookAt (now (book .entry))) limit (boardIn (kindsOf kinds) (now (kind .entry)) (now (numbers .entry)) count)) (kindsOf kinds) (now (kind .exit)) (now (numbers .exit)) r ⌝ }
 {
+    let mut list = [0u16; 384];
+    let mut made_kind = [0u8; 256];
+    let mut made_numbers = [0u16; 1024];
     let mut rows = count;
     let mut firings: u16 = 0;
     let mut rule = Ran::NO_RULE;
     while firings < limit {
-        match fire(book, kinds, rules, kind, numbers, rows) {
+        match fire(
+            book,
+            kinds,
+            rules,
+            kind,
+            numbers,
+            rows,
+            &mut list,
+            &mut made_kind,
+            &mut made_numbers,
+        ) {
             Look::Quiet => {
                 return stopped(End::Quiet, rows, firings, rule);
             }

@@ -1,20 +1,23 @@
 -- `run`: to go on from here is the whole run. The measure: how many firings are left.
 use borrow.Author.Needs.{needs}
 use Prim.Native.Nat.{_-_}
+use mathlib.Core.Path.{refl}
 use Rattle.kinds.specs.Listed.{kindsOf}
 use Rattle.runs.specs.Runs.{boardIn}
+use Rattle.plain.specs.Playing.{Lent}
 use Rattle.plain.proofs.RunLaws.{Running, run-start, run-quiet, run-full, run-fired, run-limit}
 use Rattle.plain.proofs.run.run.Statement.{statement}
 use Rattle.plain.proofs.run.run.Tie as tie
 
 abbrev Inv-loop : tie.InvT-loop
-Inv-loop book kinds rules kind₀ numbers₀ limit rows₀ firings₀ rule₀ kind numbers rows firings rule = Running book (kindsOf kinds) rules (boardIn (kindsOf kinds) kind₀ numbers₀ rows₀) limit kind numbers rows firings rule
+Inv-loop book kinds rules kind₀ numbers₀ limit list₀ made-kind₀ made-numbers₀ rows₀ firings₀ rule₀ kind numbers list made-kind made-numbers rows firings rule =
+    Running book (kindsOf kinds) rules (boardIn (kindsOf kinds) kind₀ numbers₀ rows₀) limit kind numbers rows firings rule × Lent list made-kind made-numbers
 
 abbrev μ-loop : tie.MeasureT-loop
-μ-loop book kinds rules kind₀ numbers₀ limit rows₀ firings₀ rule₀ kind numbers rows firings rule = limit - firings
+μ-loop book kinds rules kind₀ numbers₀ limit list₀ made-kind₀ made-numbers₀ rows₀ firings₀ rule₀ kind numbers list made-kind made-numbers rows firings rule = limit - firings
 
 loop-holds : tie.Need-loop-holds Inv-loop μ-loop
-loop-holds c = search run-start
+loop-holds c = (search run-start, record { listed = refl; rows = refl; places = refl })
 
 fire-requires : tie.Need-fire-requires Inv-loop μ-loop
 fire-requires c κs = search needs
@@ -47,7 +50,7 @@ loop-less : tie.Need-loop-less Inv-loop μ-loop
 loop-less c = search needs
 
 loop-again : tie.Need-loop-again Inv-loop μ-loop
-loop-again c = search run-fired
+loop-again c = (search run-fired, search needs)
 
 stopped-requires-3 : tie.Need-stopped-requires-3 Inv-loop μ-loop
 stopped-requires-3 c κs = search needs
