@@ -17,12 +17,12 @@ use Rattle.files.specs.Strip.{wordsAt}
 use Rattle.kinds.specs.declared.Kinds.{Kinds}
 use Rattle.kinds.specs.Listed.{kindsOf}
 use Rattle.rows.specs.declared.Count.{Count}
-use Rattle.rows.specs.declared.Settled.{Settled}
-use Rattle.rows.specs.declared.Settled.the-variants as S
+use Rattle.settling.specs.declared.Settled.{Settled}
+use Rattle.settling.specs.declared.Settled.the-variants as S
 use Rattle.rows.specs.Held.{noticesFrom, Sized, factIn, factsFrom}
 use Rattle.rows.specs.HeldLaws.{facts-of-rows, facts-length}
-use Rattle.rows.specs.Settles.{usedIn, BoardSettled}
-use Rattle.rows.specs.SettlesLaws.{settled-sized, settled-few, settled-full, firingOf, Holds, settled-firing}
+use Rattle.settling.specs.Settles.{usedIn, BoardSettled}
+use Rattle.settling.specs.SettlesLaws.{settled-sized, settled-few, settled-full, firingOf, Holds, settled-firing}
 use Rattle.runs.specs.Runs.{boardIn}
 use Rattle.machine.specs.declared.Turn.{Turn}
 use Rattle.machine.specs.declared.Turn.the-variants as T

@@ -17,7 +17,7 @@ use Rattle.meaning.specs.Firing.{ofClass}
 use Rattle.files.specs.Board.{isOfClass}
 use Rattle.rows.specs.Held.{fourFrom, rowAt, factIn, factOf, rowsFrom, factsFrom, withFour}
 use Rattle.rows.specs.HeldLaws.{four-length, row-placed, rows-before, facts-more, facts-before, facts-length}
-use Rattle.rows.specs.Settles.{usedIn}
+use Rattle.settling.specs.Settles.{usedIn}
 use Rattle.machine.specs.Represents.{usedOf}
 use Rattle.machine.specs.Firings.{madeFacts, ClassLaid}
 

@@ -13,10 +13,10 @@ use Rattle.files.specs.Strip.{wordsAt}
 use Rattle.kinds.specs.declared.Kinds.{Kinds}
 use Rattle.kinds.specs.Listed.{kindsOf}
 use Rattle.rows.specs.declared.Count.{Count}
-use Rattle.rows.specs.declared.Settled.{Settled}
-use Rattle.rows.specs.declared.Settled.the-variants as S
+use Rattle.settling.specs.declared.Settled.{Settled}
+use Rattle.settling.specs.declared.Settled.the-variants as S
 use Rattle.rows.specs.Held.{Sized, rowsFrom, factsFrom}
-use Rattle.rows.specs.SettlesLaws.{firingOf}
+use Rattle.settling.specs.SettlesLaws.{firingOf}
 use Rattle.runs.specs.Runs.{boardIn}
 use Rattle.machine.specs.declared.firing.Look.{Look}
 use Rattle.machine.specs.declared.firing.Look.the-variants.{Quiet, Full, Spent, Stuck, Fired}

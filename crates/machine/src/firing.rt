@@ -5,7 +5,7 @@ use crate::wide16;
 use board::Board;
 use kinds::Kinds;
 use rows::Count;
-use rows::Settled;
+use settling::Settled;
 ghost use mathlib.Core.Path.{_≡_};
 ghost use mathlib.Core.Bool.{not};
 ghost use lib.Dec.{eqb};
@@ -14,7 +14,7 @@ ghost use lib.ListN.{length, getD, set};
 ghost use Rattle.meaning.specs.Firing.{ofClass};
 ghost use Rattle.kinds.specs.Listed.{kindsOf};
 ghost use Rattle.rows.specs.Held.{fourFrom, factsFrom, withFour};
-ghost use Rattle.rows.specs.Settles.{usedIn};
+ghost use Rattle.settling.specs.Settles.{usedIn};
 ghost use Rattle.machine.specs.Represents.{usedOf};
 ghost use Rattle.machine.specs.Firings.{ClassLaid, MadeReady, MadeSettled, Playable, Looked, Lent};
 
@@ -143,7 +143,7 @@ fn settle_made(
         Board::CARDS + old,
     );
     let used = used_cards(marks);
-    rows::settle(
+    settling::settle(
         kind,
         numbers,
         count,

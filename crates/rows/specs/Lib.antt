@@ -2,9 +2,5 @@ pub mod Held
 pub mod HeldLaws
 pub mod Loads
 pub mod LoadsLaws
-pub mod Settles
-pub mod SettlesLaws
-pub mod Stretches
 pub mod Writes
 pub mod WritesLaws
-pub mod Examples

@@ -1,0 +1,4 @@
+pub mod Settles
+pub mod SettlesLaws
+pub mod Stretches
+pub mod Examples
