@@ -1,4 +1,4 @@
 // The display program of document 01. Beside it stand the hat book, its board, and what it must print.
 fn main() {
-    terminal::show();
+    display::show();
 }

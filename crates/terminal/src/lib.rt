@@ -1,7 +1,4 @@
 // Files by name, for the programs. Why a file can't be read or written is said on standard error, with its name.
-use board::Board;
-use book::Book;
-use screen::Screen;
 ghost use Prim.Native.Nat.{_≤_};
 ghost use lib.ListN.{length};
 ghost use Rattle.io.specs.Counts.{Counts};
@@ -162,31 +159,11 @@ pub fn write_file(name: &[u8], content: &[u8]) -> bool {
     true
 }
 
-// ---- the display
+// ---- standard output
 
 // Writes a text to standard output.
 pub fn say(text: &[u8]) {
     if !io::write_all(libc::STDOUT_FILENO, text) {
         os::fail(b"standard output");
     }
-}
-
-// Document 01's display program: shows the run of the files `book` and `board` of the folder that it is run in. One byte more than the longest file
-// is enough for every answer.
-pub fn show() {
-    let mut book = [0; Book::LONGEST + 1];
-    let mut board = [0; Board::LONGEST + 1];
-    let book_read = read_or_empty(b"book", &mut book);
-    if !book_read.is_read {
-        return;
-    }
-    let board_read = read_or_empty(b"board", &mut board);
-    if !board_read.is_read {
-        return;
-    }
-    let n = book_read.bytes;
-    let m = board_read.bytes;
-    let mut text = [0; Screen::BYTES];
-    let end = screen::display(&book[..n], &board[..m], &mut text);
-    say(&text[..end]);
 }
