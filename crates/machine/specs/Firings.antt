@@ -83,8 +83,9 @@ pub record Playable (strip : List ℕ) (kinds : Kinds) (kind numbers : List ℕ)
   pub notices : count .notices ≤ mostNotices
   pub declared : AllDeclared (kindsOf kinds) (boardIn (kindsOf kinds) kind numbers count)
 
--- the arrays that are lent for made facts, and for the made cards alone
-pub record Lent (madeKind madeNumbers cardKind cardNumbers : List ℕ) : Type 0 where
+-- the arrays that are lent for chains, for made facts, and for the made cards alone
+pub record Lent (next madeKind madeNumbers cardKind cardNumbers : List ℕ) : Type 0 where
+  pub chainRows : length next ≡ 384
   pub rows : length madeKind ≡ 384
   pub places : length madeNumbers ≡ 1536
   pub cardRows : length cardKind ≡ 256

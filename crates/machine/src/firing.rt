@@ -157,8 +157,8 @@ fn settle_made(
     )
 }
 
-// One attempt, with so many steps allowed, and the board after it. The board stays where nothing fires. The lent arrays are for made facts, whatever
-// they hold: to clear them would cost more than a short attempt.
+// One attempt, with so many steps allowed, and the board after it. The board stays where nothing fires. The lent arrays are for chains and made
+// facts, whatever they hold: to clear them would cost more than a short attempt.
 pub(in crate) fn fire(
     strip: &[u8],
     kinds: Kinds,
@@ -166,13 +166,14 @@ pub(in crate) fn fire(
     numbers: &mut [u16; 1536],
     count: Count,
     allowance: u64,
+    next: &mut [u16; 384],
     made_kind: &mut [u8; 384],
     made_numbers: &mut [u16; 1536],
     card_kind: &mut [u8; 256],
     card_numbers: &mut [u16; 1024],
 ) -> Look
-    requires { ⌜ Playable (now strip) kinds (now kind) (now numbers) count × Lent (now «made_kind») (now «made_numbers») (now «card_kind») (now «card_numbers») ⌝ }
-    ensures { λ r. ⌜ Looked (now (strip .entry)) allowance (kindsOf kinds) (now (kind .entry)) (now (numbers .entry)) count r (now (kind .exit)) (now (numbers .exit)) × Lent (now («made_kind» .exit)) (now («made_numbers» .exit)) (now («card_kind» .exit)) (now («card_numbers» .exit)) ⌝ }
+    requires { ⌜ Playable (now strip) kinds (now kind) (now numbers) count × Lent (now next) (now «made_kind») (now «made_numbers») (now «card_kind») (now «card_numbers») ⌝ }
+    ensures { λ r. ⌜ Looked (now (strip .entry)) allowance (kindsOf kinds) (now (kind .entry)) (now (numbers .entry)) count r (now (kind .exit)) (now (numbers .exit)) × Lent (now (next .exit)) (now («made_kind» .exit)) (now («made_numbers» .exit)) (now («card_kind» .exit)) (now («card_numbers» .exit)) ⌝ }
 {
     let cards = count.cards;
     let notices = count.notices;
@@ -184,6 +185,7 @@ pub(in crate) fn fire(
         cards,
         notices,
         allowance,
+        next,
         made_kind,
         made_numbers,
     );

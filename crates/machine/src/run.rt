@@ -44,6 +44,7 @@ fn run(
     requires { ⌜ Playable (now strip) kinds (now kind) (now numbers) count ⌝ }
     ensures { λ r. ⌜ RunEnds (runStrip (wordsAt (now (strip .entry))) limit allowance (boardIn (kindsOf kinds) (now (kind .entry)) (now (numbers .entry)) count)) (kindsOf kinds) (now (kind .exit)) (now (numbers .exit)) r ⌝ }
 {
+    let mut next = [0u16; 384];
     let mut made_kind = [0u8; 384];
     let mut made_numbers = [0u16; 1536];
     let mut card_kind = [0u8; 256];
@@ -59,6 +60,7 @@ fn run(
             numbers,
             rows,
             allowance,
+            &mut next,
             &mut made_kind,
             &mut made_numbers,
             &mut card_kind,

@@ -5,7 +5,7 @@ use Rattle.machine.proofs.firing.fire.Statement.{statement}
 use Rattle.machine.proofs.firing.fire.Tie as tie
 
 attempt-requires : tie.Need-attempt-requires
-attempt-requires c κs = (ready-by _ _ _ _ _ (c .before .before .before .before .before .pre .0), c .before .before .before .before .before .pre .1 .rows, c .before .before .before .before .before .pre .1 .places)
+attempt-requires c κs = (ready-by _ _ _ _ _ (c .before .before .before .before .before .before .pre .0), c .before .before .before .before .before .before .pre .1 .chainRows, c .before .before .before .before .before .before .pre .1 .rows, c .before .before .before .before .before .before .pre .1 .places)
 
 enum-told : tie.Need-enum-told
 enum-told c = search needs
@@ -29,7 +29,7 @@ wide16-requires-2 : tie.Need-wide16-requires-2
 wide16-requires-2 c κs = search needs
 
 settle-made-requires : tie.Need-settle-made-requires
-settle-made-requires c κs = (fire-ready _ _ _ _ _ (c .before .before .before .before .before .before .before .before .before .before .before .before .before .before .before .before .before .before .before .before .pre .0) _ _ _ (c .before .before .before .before .before .before .before .before .before .before .before .before .before .before .attempt .ensures) _ _ (c .before .before .before .wide16 .ensures .0) (c .before .before .wide162 .ensures .0), c .before .before .before .before .before .before .before .before .before .before .before .before .before .before .before .before .before .before .before .before .pre .1 .cardRows, c .before .before .before .before .before .before .before .before .before .before .before .before .before .before .before .before .before .before .before .before .pre .1 .cardPlaces)
+settle-made-requires c κs = (fire-ready _ _ _ _ _ (c .before .before .before .before .before .before .before .before .before .before .before .before .before .before .before .before .before .before .before .before .before .pre .0) _ _ _ (c .before .before .before .before .before .before .before .before .before .before .before .before .before .before .attempt .ensures .0) _ _ (c .before .before .before .wide16 .ensures .0) (c .before .before .wide162 .ensures .0), c .before .before .before .before .before .before .before .before .before .before .before .before .before .before .before .before .before .before .before .before .before .pre .1 .cardRows, c .before .before .before .before .before .before .before .before .before .before .before .before .before .before .before .before .before .before .before .before .before .pre .1 .cardPlaces)
 
 enum-told-5 : tie.Need-enum-told-5
 enum-told-5 c = search needs
@@ -53,16 +53,16 @@ returns-5 : tie.Need-returns-5
 returns-5 c =
     let ran = c .before .before .before .before .before .before .before .before .before .before .before .before .before .before .before .before .before .attempt .ensures in
     let settled = c .before .before .settle-made .ensures in (
-      search (look-over, c .before .before .before .before .before .before .before .before .before .before .before .before .before .before .before .before .before .before .before .before .before .before .before .pre .0),
-      record { rows = ran .madeKindSize; places = ran .madeNumbersSize; cardRows = settled .1; cardPlaces = settled .2 },
+      look-over _ _ _ _ _ (c .before .before .before .before .before .before .before .before .before .before .before .before .before .before .before .before .before .before .before .before .before .before .before .before .pre .0) _ _ _ (ran .0) _ _ (c .before .before .before .before .before .before .wide16 .ensures .0) (c .before .before .before .before .before .wide162 .ensures .0) _ (c .before .before .before .before .before .before .before .before .before .before .before .before .before .turn .given .1) _ _ _ (settled .0) (search needs),
+      record { chainRows = ran .1; rows = ran .0 .madeKindSize; places = ran .0 .madeNumbersSize; cardRows = settled .1; cardPlaces = settled .2 },
     )
 
 returns-6 : tie.Need-returns-6
 returns-6 c =
     let ran = c .before .before .before .before .before .before .before .before .before .before .before .before .before .before .before .before .before .before .attempt .ensures in
     let settled = c .before .before .before .settle-made .ensures in (
-      search (look-fired, c .before .before .before .before .before .before .before .before .before .before .before .before .before .before .before .before .before .before .before .before .before .before .before .before .pre .0),
-      record { rows = ran .madeKindSize; places = ran .madeNumbersSize; cardRows = settled .1; cardPlaces = settled .2 },
+      look-fired _ _ _ _ _ (c .before .before .before .before .before .before .before .before .before .before .before .before .before .before .before .before .before .before .before .before .before .before .before .before .before .pre .0) _ _ _ (ran .0) _ _ (c .before .before .before .before .before .before .before .wide16 .ensures .0) (c .before .before .before .before .before .before .wide162 .ensures .0) _ (search needs) _ _ _ (settled .0) _ (search needs),
+      record { chainRows = ran .1; rows = ran .0 .madeKindSize; places = ran .0 .madeNumbersSize; cardRows = settled .1; cardPlaces = settled .2 },
     )
 
 pub fire-spec : {M : Type 1} → statement M

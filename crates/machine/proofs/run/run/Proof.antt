@@ -10,14 +10,14 @@ use Rattle.machine.proofs.run.run.Statement.{statement}
 use Rattle.machine.proofs.run.run.Tie as tie
 
 abbrev Inv-loop : tie.InvT-loop
-Inv-loop strip kinds kind₀ numbers₀ limit allowance made-kind₀ made-numbers₀ card-kind₀ card-numbers₀ rows₀ firings₀ rule₀ kind numbers made-kind made-numbers card-kind card-numbers rows firings rule =
-    Running strip kinds allowance (boardIn (kindsOf kinds) kind₀ numbers₀ rows₀) limit kind numbers rows firings rule × Lent made-kind made-numbers card-kind card-numbers
+Inv-loop strip kinds kind₀ numbers₀ limit allowance next₀ made-kind₀ made-numbers₀ card-kind₀ card-numbers₀ rows₀ firings₀ rule₀ kind numbers next made-kind made-numbers card-kind card-numbers rows firings rule =
+    Running strip kinds allowance (boardIn (kindsOf kinds) kind₀ numbers₀ rows₀) limit kind numbers rows firings rule × Lent next made-kind made-numbers card-kind card-numbers
 
 abbrev μ-loop : tie.MeasureT-loop
-μ-loop strip kinds kind₀ numbers₀ limit allowance made-kind₀ made-numbers₀ card-kind₀ card-numbers₀ rows₀ firings₀ rule₀ kind numbers made-kind made-numbers card-kind card-numbers rows firings rule = limit - firings
+μ-loop strip kinds kind₀ numbers₀ limit allowance next₀ made-kind₀ made-numbers₀ card-kind₀ card-numbers₀ rows₀ firings₀ rule₀ kind numbers next made-kind made-numbers card-kind card-numbers rows firings rule = limit - firings
 
 loop-holds : tie.Need-loop-holds Inv-loop μ-loop
-loop-holds c = (search run-start, record { rows = refl; places = refl; cardRows = refl; cardPlaces = refl })
+loop-holds c = (search run-start, record { chainRows = refl; rows = refl; places = refl; cardRows = refl; cardPlaces = refl })
 
 fire-requires : tie.Need-fire-requires Inv-loop μ-loop
 fire-requires c κs = search needs
