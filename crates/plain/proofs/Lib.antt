@@ -6,7 +6,7 @@ pub mod ListLaws
 pub mod OthersLaws
 pub mod LoopLaws
 pub mod Going
-pub mod AloneLaws
+pub mod FirstAtomLaws
 pub mod HomeLaws
 pub mod MakeLaws
 pub mod ListsLaws

@@ -4,7 +4,7 @@ pub mod Represents
 pub mod Decoded
 pub mod Stands
 pub mod Prepare
-pub mod Alone
+pub mod FirstAtom
 pub mod Making
 pub mod Sweeping
 pub mod Look

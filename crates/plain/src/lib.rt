@@ -1,6 +1,6 @@
 // The plain runner of a rule book.
-mod alone;
 mod firing;
+mod first_atom;
 mod homes;
 mod lists;
 mod look;
