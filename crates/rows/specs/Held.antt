@@ -1,6 +1,6 @@
 -- The board that two arrays hold: a kind byte a row, and four numbers a row, row r at 4r to 4r + 3. Cards are rows 0 to 255, notices rows 256
 -- to 383. Every read is total: 0 past an array's end.
-use Prim.Native.Nat.{ℕ, zero, suc, _+_, _*_}
+use Prim.Native.Nat.{ℕ, zero, suc, _+_, _*_, _≤_, _<_}
 use mathlib.Core.Path.{_≡_}
 use mathlib.Core.List.{List, [], _∷_}
 use lib.ListN.{length, getD, take, set}
@@ -55,6 +55,10 @@ boardOf kinds kind numbers cards notices = record {
   cards = factsFrom kinds kind numbers 0 cards;
   notices = factsFrom kinds kind numbers noticesFrom notices;
 }
+
+-- no row from one row to another is of the kind
+abbrev pub NoneOfKind : List ℕ → ℕ → ℕ → ℕ → Type 0
+NoneOfKind kind k from to = (row : ℕ) → from ≤ row → row < to → getD kind row 0 ≡ k → ⊥
 
 -- ---- writing: facts one after another, the first at a row; a fact fills all four numbers of its row, with 0 past its own
 
