@@ -4,7 +4,7 @@ use rows::Count;
 ghost use mathlib.Core.Path.{_≡_};
 ghost use mathlib.Core.Bool.{true};
 ghost use Prim.Native.Nat.{_+_, _*_, _≤_, _<_};
-ghost use lib.ListN.{getD, set};
+ghost use lib.ListN.{length, getD, set};
 ghost use lib.Dec.{leb};
 ghost use Rattle.rows.specs.Held.{fourFrom, rowsFrom, withFour, kindsWith, numbersWith};
 ghost use Rattle.settling.specs.Settles.{keptCards, keptCount, BoardSettled};
@@ -110,30 +110,44 @@ fn next_used(used: &[u8; 256], from: usize, cards: usize) -> usize
     row
 }
 
-// So many kinds move down by a distance.
-fn move_kinds(kind: &mut [u8; 384], to: usize, distance: usize, count: usize)
-    requires { ⌜ to + distance + count ≤ 384 ⌝ }
-    ensures { λ _. ⌜ now (kind .exit) ≡ moved (now (kind .entry)) to (to + distance) count ⌝ }
+// So many kinds move down by a distance, to the front. (From the front on, and by a distance that is known, the compiler takes its quickest move.)
+fn kinds_to_front(part: &mut [u8], distance: usize, count: usize)
+    requires { ⌜ (distance + count ≤ length (now part)) × (length (now part) ≤ 384) ⌝ }
+    ensures { λ _. ⌜ now (part .exit) ≡ moved (now (part .entry)) 0 distance count ⌝ }
 {
     let mut done = 0;
     while done < count {
-        let at = to + done;
-        kind[at] = kind[at + distance];
+        part[done] = part[done + distance];
         done += 1;
     }
 }
 
-// So many numbers move down by a distance.
-fn move_numbers(numbers: &mut [u16; 1536], to: usize, distance: usize, count: usize)
-    requires { ⌜ to + distance + count ≤ 1536 ⌝ }
-    ensures { λ _. ⌜ now (numbers .exit) ≡ moved (now (numbers .entry)) to (to + distance) count ⌝ }
+// The same of numbers.
+fn numbers_to_front(part: &mut [u16], distance: usize, count: usize)
+    requires { ⌜ (distance + count ≤ length (now part)) × (length (now part) ≤ 1536) ⌝ }
+    ensures { λ _. ⌜ now (part .exit) ≡ moved (now (part .entry)) 0 distance count ⌝ }
 {
     let mut done = 0;
     while done < count {
-        let at = to + done;
-        numbers[at] = numbers[at + distance];
+        part[done] = part[done + distance];
         done += 1;
     }
+}
+
+// So many kinds move down by a distance, to a place.
+fn move_kinds(kind: &mut [u8], to: usize, distance: usize, count: usize)
+    requires { ⌜ (to + distance + count ≤ length (now kind)) × (length (now kind) ≤ 384) ⌝ }
+    ensures { λ _. ⌜ now (kind .exit) ≡ moved (now (kind .entry)) to (to + distance) count ⌝ }
+{
+    kinds_to_front(&mut kind[to..], distance, count);
+}
+
+// The same of numbers.
+fn move_numbers(numbers: &mut [u16], to: usize, distance: usize, count: usize)
+    requires { ⌜ (to + distance + count ≤ length (now numbers)) × (length (now numbers) ≤ 1536) ⌝ }
+    ensures { λ _. ⌜ now (numbers .exit) ≡ moved (now (numbers .entry)) to (to + distance) count ⌝ }
+{
+    numbers_to_front(&mut numbers[to..], distance, count);
 }
 
 // The rows between a used card and the next one move down by a distance; gives the next one. (Its callers give a fixed distance, and each array then
