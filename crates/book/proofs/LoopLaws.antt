@@ -8,7 +8,7 @@ use lib.ListN.{length, take, drop, length-drop}
 use borrow.Author.Tests.{not-true, not-false}
 use Rattle.files.specs.Numbers.{PLACE}
 use Rattle.files.specs.Marks.{KD, RU, BA, TE, HE, SW, EN, isMark}
-use Rattle.files.specs.Judge.{Verdict, accepted, refused, Judged, go, told, demand, afterRecord, judge}
+use Rattle.files.specs.Judge.{Verdict, accepted, refused, Judged, told, demand, afterRecord, judge}
 use Rattle.files.specs.InPlace.{byteAt}
 use Rattle.files.specs.Book.{Mark, markOf, Reading, emptyReading, mayStandHere, fields, afterPlace, bookRecord, bookOf, judgeBook}
 use Rattle.kinds.specs.declared.Kinds.{Kinds}

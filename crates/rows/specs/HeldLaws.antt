@@ -5,9 +5,8 @@ use native.Mathlib.Nat.{add-zero}
 use native.Mathlib.Numerals.{add-one}
 use native.Mathlib.Omega.{arith}
 use mathlib.Core.Path.{_≡_, refl, sym, ap, ap₂, _∙_}
-use mathlib.Core.Option.{none, some}
 use mathlib.Core.List.{List, [], _∷_, _++_, map}
-use lib.ListN.{length, getD, getElem?, take, set, length-set}
+use lib.ListN.{length, getD, take, set, length-set}
 use lib.Seq.{getD-set-same, getD-set-other, set-getD}
 use Rattle.meaning.specs.Basics.{All}
 use Rattle.meaning.specs.Facts.{Kind, Fact, arityOf, mostNumbers}
@@ -204,22 +203,7 @@ unfolding factsFrom
 facts-length kinds kind numbers row zero = refl
 facts-length kinds kind numbers row (suc n) = ap suc (facts-length kinds kind numbers (suc row) n)
 
--- fact i
-pub facts-at : (kinds : List Kind) (kind numbers : List ℕ) (row n i : ℕ) → i < n → getElem? (factsFrom kinds kind numbers row n) i ≡ some (factOf kinds kind numbers (row + i))
-unfolding factsFrom
-facts-at kinds kind numbers row zero i h = let bad : ⊥ = omega arith in absurd bad
-facts-at kinds kind numbers row (suc n) zero h = rw (add-zero row)
-facts-at kinds kind numbers row (suc n) (suc i) h =
-    let e : suc row + i ≡ row + suc i = omega arith in
-    facts-at kinds kind numbers (suc row) n i (omega arith) ∙ ap (λ (r : ℕ). some (factOf kinds kind numbers r)) e
-
-pub facts-past : (kinds : List Kind) (kind numbers : List ℕ) (row n i : ℕ) → n ≤ i → getElem? (factsFrom kinds kind numbers row n) i ≡ none
-unfolding factsFrom
-facts-past kinds kind numbers row zero i h = refl
-facts-past kinds kind numbers row (suc n) zero h = let bad : ⊥ = omega arith in absurd bad
-facts-past kinds kind numbers row (suc n) (suc i) h = facts-past kinds kind numbers (suc row) n i (omega arith)
-
--- after a row was written that lies behind them, or before them
+-- after a row was written that lies behind them
 module _ (kinds : List Kind) (kind numbers : List ℕ) (row k : ℕ) (four : List ℕ) (r n : ℕ) where
   same-facts : rowsFrom (set kind row k) (withFour numbers (4 * row) four) r n ≡ rowsFrom kind numbers r n
       → factsFrom kinds (set kind row k) (withFour numbers (4 * row) four) r n ≡ factsFrom kinds kind numbers r n
@@ -228,9 +212,6 @@ module _ (kinds : List Kind) (kind numbers : List ℕ) (row k : ℕ) (four : Lis
 
   pub facts-before : r + n ≤ row → factsFrom kinds (set kind row k) (withFour numbers (4 * row) four) r n ≡ factsFrom kinds kind numbers r n
   facts-before h = same-facts (rows-before kind numbers row k four r n h)
-
-  pub facts-after : row < r → factsFrom kinds (set kind row k) (withFour numbers (4 * row) four) r n ≡ factsFrom kinds kind numbers r n
-  facts-after h = same-facts (rows-after kind numbers row k four r n h)
 
 -- one more fact behind them
 pub facts-more : (kinds : List Kind) (kind numbers : List ℕ) (row n : ℕ)

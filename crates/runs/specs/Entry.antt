@@ -1,6 +1,6 @@
 -- A run between two files: the board that is loaded, and the one that is written.
 use Prim.Native.Nat.{ℕ, _≤_}
-use mathlib.Core.Path.{_≡_, refl, ap, _∙_, subst}
+use mathlib.Core.Path.{_≡_, ap, subst}
 use mathlib.Core.List.{List}
 use lib.ListN.{length, replicate, length-replicate}
 use Rattle.meaning.specs.Basics.{All}
@@ -18,7 +18,7 @@ use Rattle.rows.specs.LoadsLaws.{loaded-board, loaded-sized, board-size}
 use Rattle.rows.specs.Writes.{writtenBoard, BoardWritten}
 use Rattle.rows.specs.WritesLaws.{board-written}
 use Rattle.runs.specs.declared.Ran as R
-use Rattle.runs.specs.Runs.{endOf, boardIn, ranIn, RunEnds, endedAnswer}
+use Rattle.runs.specs.Runs.{endOf, boardIn, RunEnds, endedAnswer}
 
 -- ---- the arrays before anything is loaded
 
