@@ -7,13 +7,14 @@ use mathlib.Core.List.{List}
 use lib.ListN.{length, getD, List·getD-eq-default}
 use lib.Dec.{eqb}
 use borrow.Author.Tests.{le-ltb, lt-ltb, eq-eqb, ne-eqb, not-true, not-false}
-use Rattle.meaning.specs.Facts.{Kind, longestBook, mostInRule, arityOf}
-use Rattle.files.specs.Marks.{BA, HE}
+use Rattle.meaning.specs.Facts.{Kind, longestBook, mostInRule, mostInSweep, arityOf}
+use Rattle.files.specs.Marks.{BA, HE, SW}
 use Rattle.files.specs.InPlace.{byteAt, twoAt}
-use Rattle.places.specs.Stands.{markStands, termStands, zeroTerm, testStands, atomSize, atomEnd, recordsFrom, atomsFrom, testsFrom, groupsEnd, sweepsFrom, ruleEnd}
+use Rattle.places.specs.Stands.{markStands, termStands, zeroTerm, testStands, atomSize, atomEnd, recordsFrom, atomsFrom, testsFrom, groupsOf, groupsFrom, groupsEnd, sweepsFrom, ruleEnd}
 use Rattle.places.specs.StandsLaws.{stands-near}
 use Rattle.places.specs.declared.Term.{Term}
 use Rattle.places.specs.declared.Span.{Span}
+use Rattle.places.specs.declared.Groups.{Groups}
 
 -- ---- marks
 
@@ -109,11 +110,17 @@ atoms-go file mark kinds most at count next c l t e h s q =
 -- ---- groups and rules
 
 module _ (file : List ℕ) (kinds : List Kind) where
-  pub groups-end-is : (most at : ℕ) (body tested heads : Span) → body ≡ atomsFrom file kinds BA most at → tested ≡ testsFrom file most (body .next)
-      → heads ≡ atomsFrom file kinds HE most (tested .next) → heads .next ≡ groupsEnd file kinds most at
-  unfolding groupsEnd
-  groups-end-is most at body tested heads b t h = rw (h, t, b)
+  pub groups-are-found : (most at : ℕ) (body tested heads : Span) → body ≡ atomsFrom file kinds BA most at → tested ≡ testsFrom file most (body .next)
+      → heads ≡ atomsFrom file kinds HE most (tested .next) → groupsOf at body tested heads ≡ groupsFrom file kinds most at
+  unfolding groupsFrom
+  groups-are-found most at body tested heads b t h = rw (h, t, b)
 
-  pub rule-end-is : (at own : ℕ) (swept : Span) → own ≡ groupsEnd file kinds mostInRule at → swept ≡ sweepsFrom file kinds own → swept .next ≡ ruleEnd file kinds at
+  pub sweeps-go : (most at count next : ℕ) → Counts file SW (groupsEnd file kinds mostInSweep) most at count next → count < most
+      → (t : Bool) → t ≡ markStands file SW next → not t ≡ false → (own : Groups) → own ≡ groupsFrom file kinds mostInSweep (next + 2)
+      → Counts file SW (groupsEnd file kinds mostInSweep) most at (count + 1) (own .next)
+  sweeps-go most at count next c l t e h own q =
+      count-goes file SW (groupsEnd file kinds mostInSweep) most at count next c l t e h (own .next) (ap (λ (g : Groups). g .next) q)
+
+  pub rule-end-is : (at : ℕ) (own : Groups) (swept : Span) → own ≡ groupsFrom file kinds mostInRule at → swept ≡ sweepsFrom file kinds (own .next) → swept .next ≡ ruleEnd file kinds at
   unfolding ruleEnd
   rule-end-is at own swept o s = rw (s, o)

@@ -11,6 +11,7 @@ use Rattle.files.specs.InPlace.{byteAt, twoAt}
 use Rattle.places.specs.declared.Term.{Term}
 use Rattle.places.specs.declared.Test.{Test}
 use Rattle.places.specs.declared.Span.{Span}
+use Rattle.places.specs.declared.Groups.{Groups}
 
 abbrev pub markStands : List ℕ → List ℕ → ℕ → Bool
 markStands file mark p = ltb p longestBook && isMark mark (byteAt file p) (byteAt file (p + 1))
@@ -43,6 +44,18 @@ recordsFrom file mark after (suc left) n p =
     let more = recordsFrom file mark after left (suc n) (after (p + 2)) in
     if markStands file mark p then more else record { count = n; next = p }
 
+-- the three groups from a place on
+abbrev pub groupsOf : ℕ → Span → Span → Span → Groups
+groupsOf p body tested heads = record {
+  «body_at» = p;
+  body = body .count;
+  «tests_at» = body .next;
+  tests = tested .count;
+  «heads_at» = tested .next;
+  heads = heads .count;
+  next = heads .next;
+}
+
 module _ (file : List ℕ) where
   abbrev pub testsFrom : ℕ → ℕ → Span
   testsFrom most p = recordsFrom file TE (λ q. q + 7) most 0 p
@@ -51,9 +64,17 @@ module _ (file : List ℕ) where
     abbrev pub atomsFrom : List ℕ → ℕ → ℕ → Span
     atomsFrom mark most p = recordsFrom file mark (atomEnd file kinds) most 0 p
 
-    -- the place after a body, its tests and its heads, at most so many of each
-    unfoldable pub groupsEnd : ℕ → ℕ → ℕ
-    groupsEnd most p = atomsFrom HE most (testsFrom most (atomsFrom BA most p .next) .next) .next
+    -- a body, its tests and its heads, at most so many of each, each group from where the one before ends
+    unfoldable pub groupsFrom : ℕ → ℕ → Groups
+    groupsFrom most p =
+        let body = atomsFrom BA most p in
+        let tested = testsFrom most (body .next) in
+        let heads = atomsFrom HE most (tested .next) in
+        groupsOf p body tested heads
+
+    -- the place after them
+    abbrev pub groupsEnd : ℕ → ℕ → ℕ
+    groupsEnd most p = groupsFrom most p .next
 
     abbrev pub sweepsFrom : ℕ → Span
     sweepsFrom p = recordsFrom file SW (groupsEnd mostInSweep) mostSweeps 0 p

@@ -1,7 +1,7 @@
 -- On a file no longer than the longest book, the readers by position find what crates/files InPlace reads: a mark has no zero letter, so where one
 -- stands the place lies within the file.
 use Prim.Native.Nat.{ℕ, zero, suc, _+_, _≤_, _<_}
-use native.Mathlib.Nat.{add-zero}
+use native.Mathlib.Nat.{add-zero, zero-add}
 use native.Mathlib.Omega.{arith}
 use mathlib.Core.Path.{_≡_, refl, sym, ap, _∙_}
 use mathlib.Core.Bool.{Bool, true, false, _&&_}
@@ -11,10 +11,12 @@ use lib.Dec.{eqb, ltb}
 use borrow.Author.Tests.{ltb-true, ltb-false, lt-ltb, ne-eqb}
 use Rattle.meaning.specs.Basics.{if_then_else_}
 use Rattle.meaning.specs.Facts.{Kind, longestBook, mostInRule, mostInSweep, mostSweeps}
+use Rattle.meaning.specs.Rules.{Atom, Test}
 use Rattle.files.specs.Marks.{isMark, RU, BA, TE, HE, SW}
 use Rattle.files.specs.InPlace.{byteAt, termOf, termAt, testAt, atomAt, groupsAt, ruleAt, comparisonOf, Read, prepend, recordsAt}
-use Rattle.places.specs.Stands.{markStands, termStands, testStands, atomEnd, recordsFrom, atomsFrom, testsFrom, groupsEnd, sweepsFrom, ruleEnd, rulesFrom}
+use Rattle.places.specs.Stands.{markStands, termStands, testStands, atomEnd, recordsFrom, atomsFrom, testsFrom, groupsOf, groupsFrom, groupsEnd, sweepsFrom, ruleEnd, rulesFrom}
 use Rattle.places.specs.declared.Span.{Span}
+use Rattle.places.specs.declared.Groups.{Groups}
 
 -- where a mark stands, the place is within the longest book
 pub stands-near : (file mark : List ℕ) (p : ℕ) → markStands file mark p ≡ true → p < longestBook
@@ -38,6 +40,13 @@ stands-is file mark p short letter = by (ltb p longestBook) refl
 -- so many records that are counted already, and those that were read
 abbrev pub counted : {A : Type 0} → ℕ → Read (List A) → Span
 counted n read = record { count = n + length (read .value); next = read .next }
+
+-- so many records as were read
+abbrev pub spanOf : {A : Type 0} → Read (List A) → Span
+spanOf read = record { count = length (read .value); next = read .next }
+
+none-before : {A : Type 0} (read : Read (List A)) → counted 0 read ≡ spanOf read
+none-before read = ap (λ (n : ℕ). record { count = n; next = read .next }) (zero-add (length (read .value)))
 
 -- "so many records, and the place after them" are those that InPlace reads, by the place after an item
 pub from-is : {A : Type 0} (file mark : List ℕ) (after : ℕ → ℕ) (item : ℕ → Read A) → length file ≤ longestBook → (getD mark 0 0 ≡ 0 → ⊥)
@@ -74,14 +83,25 @@ module _ (file : List ℕ) (kinds : List Kind) (short : length file ≤ longestB
   pub tests-are : (most p : ℕ) → testsFrom file most p ≡ counted 0 (recordsAt file TE (testAt file) most p)
   tests-are most p = from-is file TE (λ q. q + 7) (testAt file) short (λ h. omega (arith, h)) (λ q. refl) most 0 p
 
+  -- each group stands where the one before ends
+  pub groups-are : (most p : ℕ) →
+      let body = recordsAt file BA (atomAt file kinds) most p in
+      let tests = recordsAt file TE (testAt file) most (body .next) in
+      let heads = recordsAt file HE (atomAt file kinds) most (tests .next) in
+      groupsFrom file kinds most p ≡ groupsOf p (spanOf body) (spanOf tests) (spanOf heads)
+  unfolding groupsFrom
+  groups-are most p =
+      let body : Read (List Atom) = recordsAt file BA (atomAt file kinds) most p in
+      let tests : Read (List Test) = recordsAt file TE (testAt file) most (body .next) in
+      let heads : Read (List Atom) = recordsAt file HE (atomAt file kinds) most (tests .next) in
+      ap (λ (s : Span). groupsOf p s (testsFrom file most (s .next)) (atomsFrom file kinds HE most (testsFrom file most (s .next) .next)))
+      (atoms-are BA (λ h. omega (arith, h)) most p ∙ none-before body)
+      ∙ ap (λ (s : Span). groupsOf p (spanOf body) s (atomsFrom file kinds HE most (s .next))) (tests-are most (body .next) ∙ none-before tests)
+      ∙ ap (groupsOf p (spanOf body) (spanOf tests)) (atoms-are HE (λ h. omega (arith, h)) most (tests .next) ∙ none-before heads)
+
   pub groups-end-at : (most p : ℕ) → groupsEnd file kinds most p ≡ groupsAt file kinds most p .next
-  unfolding groupsEnd groupsAt
-  groups-end-at most p =
-      let body : ℕ = recordsAt file BA (atomAt file kinds) most p .next in
-      let tested : ℕ = recordsAt file TE (testAt file) most body .next in
-      ap (λ (s : Span). atomsFrom file kinds HE most (testsFrom file most (s .next) .next) .next) (atoms-are BA (λ h. omega (arith, h)) most p)
-      ∙ ap (λ (s : Span). atomsFrom file kinds HE most (s .next) .next) (tests-are most body)
-      ∙ ap (λ (s : Span). s .next) (atoms-are HE (λ h. omega (arith, h)) most tested)
+  unfolding groupsAt
+  groups-end-at most p = ap (λ (g : Groups). g .next) (groups-are most p)
 
   pub sweeps-are : (p : ℕ) → sweepsFrom file kinds p ≡ counted 0 (recordsAt file SW (groupsAt file kinds mostInSweep) mostSweeps p)
   sweeps-are p = from-is file SW (groupsEnd file kinds mostInSweep) (groupsAt file kinds mostInSweep) short (λ h. omega (arith, h)) (λ q. sym (groups-end-at mostInSweep q)) mostSweeps 0 p

@@ -7,7 +7,7 @@ ghost use mathlib.Core.Path.{_≡_};
 ghost use Prim.Native.Nat.{ℕ, _+_, _*_, _≤_, _<_};
 ghost use lib.ListN.{length};
 ghost use Rattle.kinds.specs.Listed.{kindsOf};
-ghost use Rattle.places.specs.Stands.{markStands, termStands, testStands, atomSize, atomsFrom, testsFrom, groupsEnd, sweepsFrom, ruleEnd, rulesFrom};
+ghost use Rattle.places.specs.Stands.{markStands, termStands, testStands, atomSize, atomsFrom, testsFrom, groupsFrom, sweepsFrom, ruleEnd, rulesFrom};
 
 // A term: its tag (0 constant, 1 variable) and its value.
 pub struct Term {
@@ -25,6 +25,17 @@ pub struct Test {
 // So many records, and the place after them.
 pub struct Span {
     pub count: usize,
+    pub next: usize,
+}
+
+// The groups of a rule or a sweep: where its body atoms, its tests and its heads stand, and how many they are; the place after them.
+pub struct Groups {
+    pub body_at: usize,
+    pub body: usize,
+    pub tests_at: usize,
+    pub tests: usize,
+    pub heads_at: usize,
+    pub heads: usize,
     pub next: usize,
 }
 
@@ -117,14 +128,22 @@ pub fn tests(book: &[u8], most: usize, at: usize) -> Span
     Span { count, next }
 }
 
-// The place after a body, its tests and its heads, at most so many of each, from a place on.
-pub fn groups_end(book: &[u8], kinds: Kinds, most: usize, at: usize) -> usize
-    ensures { λ r. ⌜ r ≡ groupsEnd (now (book .entry)) (kindsOf kinds) most at ⌝ }
+// A body, its tests and its heads, at most so many of each, from a place on.
+pub fn groups_at(book: &[u8], kinds: Kinds, most: usize, at: usize) -> Groups
+    ensures { λ r. ⌜ r ≡ groupsFrom (now (book .entry)) (kindsOf kinds) most at ⌝ }
 {
     let body = atoms(book, kinds, &Book::BA, most, at);
     let tested = tests(book, most, body.next);
     let heads = atoms(book, kinds, &Book::HE, most, tested.next);
-    heads.next
+    Groups {
+        body_at: at,
+        body: body.count,
+        tests_at: body.next,
+        tests: tested.count,
+        heads_at: tested.next,
+        heads: heads.count,
+        next: heads.next,
+    }
 }
 
 // The sweeps of a rule, from the place after its heads on.
@@ -137,7 +156,8 @@ pub fn sweeps(book: &[u8], kinds: Kinds, at: usize) -> Span
         if !is_marked(book, next, &Book::SW) {
             return Span { count, next };
         }
-        next = groups_end(book, kinds, Book::IN_SWEEP, next + 2);
+        let own = groups_at(book, kinds, Book::IN_SWEEP, next + 2);
+        next = own.next;
         count += 1;
     }
     Span { count, next }
@@ -147,8 +167,8 @@ pub fn sweeps(book: &[u8], kinds: Kinds, at: usize) -> Span
 pub fn rule_end(book: &[u8], kinds: Kinds, at: usize) -> usize
     ensures { λ r. ⌜ r ≡ ruleEnd (now (book .entry)) (kindsOf kinds) at ⌝ }
 {
-    let own = groups_end(book, kinds, Book::IN_RULE, at);
-    let swept = sweeps(book, kinds, own);
+    let own = groups_at(book, kinds, Book::IN_RULE, at);
+    let swept = sweeps(book, kinds, own.next);
     swept.next
 }
 
