@@ -1,6 +1,9 @@
 // The display program of document 01, from files to screen.
+mod plain_run;
+
 use board::Board;
 use book::Book;
+pub use plain_run::display;
 use screen::Screen;
 use terminal::read_or_empty;
 use terminal::say;
@@ -20,6 +23,6 @@ pub fn show() {
     let n = book_read.bytes;
     let m = board_read.bytes;
     let mut text = [0; Screen::BYTES];
-    let end = screen::display(&book[..n], &board[..m], &mut text);
+    let end = display(&book[..n], &board[..m], &mut text);
     say(&text[..end]);
 }

@@ -25,7 +25,7 @@ use Rattle.runs.specs.Runs.{endOf, endedAnswer}
 use Rattle.translate.specs.Answers.{translatedAnswer}
 use Rattle.translate.specs.declared.Translated.{Translated}
 use Rattle.translate.specs.declared.Translated.the-variants as T
-use Rattle.engine.specs.Shown.{atMostPlace, mostPlace, shown, refusedBy}
+use Rattle.answers.specs.Shown.{atMostPlace, mostPlace, shown, refusedBy}
 
 pub place-small : (place : ℕ) → place < mostPlace → place ≡ atMostPlace place
 place-small place h = rw (lt-ltb place mostPlace h)

@@ -1,4 +1,5 @@
 // The engine for other languages: document 01's six entries behind functions of C. Every function takes any bytes.
+use answers::Answer;
 use board::BoardChecked;
 use book::BookChecked;
 use machine::run::StripRan;
@@ -20,19 +21,7 @@ ghost use lib.ListN.{length};
 ghost use Rattle.book.specs.Told.{bookTold};
 ghost use Rattle.board.specs.Told.{boardTold};
 ghost use Rattle.strip.specs.Told.{stripTold};
-ghost use Rattle.engine.specs.Shown.{answerOf, shown, refusedBy, atMostPlace};
-
-// What every entry answers: document 01's number, the file it is about (0 none, 1 book, 2 strip, 3 board, 4 output), the last fired rule, the
-// firings done, the place in the file, the bytes written.
-#[repr(C)]
-pub struct Answer {
-    pub number: u8,
-    pub file: u8,
-    pub rule: u8,
-    pub firings: u16,
-    pub place: u32,
-    pub length: u32,
-}
+ghost use Rattle.answers.specs.Shown.{answerOf, shown, refusedBy, atMostPlace};
 
 // A place or a length in 32 bits.
 fn in_32(place: usize) -> u32

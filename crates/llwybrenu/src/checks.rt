@@ -1,9 +1,9 @@
 // The commands that run nothing: check, check-strip and translate. Each is true: its words made a command, whatever came of it.
 use crate::arguments::read;
 use crate::refusals::refuse;
+use answers::Answer;
 use board::Board;
 use book::Book;
-use engine::Answer;
 use strip::Strip;
 use terminal::say;
 

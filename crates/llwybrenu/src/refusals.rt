@@ -1,5 +1,5 @@
 // A refusal in words: document 01's line, what its number means, the place, and the bytes around it.
-use engine::Answer;
+use answers::Answer;
 use fields::byte_at;
 use kinds::Kinds;
 use terminal::say;

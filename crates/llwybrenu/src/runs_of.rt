@@ -2,9 +2,9 @@
 use crate::arguments::number;
 use crate::arguments::read;
 use crate::refusals::refuse;
+use answers::Answer;
 use board::Board;
 use book::Book;
-use engine::Answer;
 use kinds::Kinds;
 use screen::Screen;
 use strip::Strip;

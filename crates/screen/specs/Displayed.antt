@@ -25,7 +25,7 @@ use Rattle.book_encoding.specs.Accepted.{book-accepted}
 use Rattle.firings.specs.Keeping.{run-keeps-good}
 use Rattle.promises.specs.Promises.{PlaceIs}
 use Rattle.kept.specs.DemandOneKept.{demand-one}
-use Rattle.engine.specs.Shown.{shown, atMostPlace, mostPlace}
+use Rattle.answers.specs.Shown.{shown, atMostPlace, mostPlace}
 use Rattle.screen.specs.Text.{fileText, answerText}
 
 -- what the engine answers for the two files, as text

@@ -23,7 +23,7 @@ use Rattle.files.specs.Display.{digitsBefore, decimal, space, newline, rowLine,
 use Rattle.book_encoding.specs.Accepted.{book-accepted}
 use Rattle.encoding.specs.Boards.{board-accepted}
 use Rattle.firings.specs.Keeping.{run-keeps-good}
-use Rattle.engine.specs.Shown.{mostPlace}
+use Rattle.answers.specs.Shown.{mostPlace}
 use Rattle.screen.specs.Put.{Output, reached, put, putByte}
 use Rattle.screen.specs.Shows.{TextPut}
 use Rattle.screen.specs.Displayed.{screenText, screen-is-display}

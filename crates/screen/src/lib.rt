@@ -1,11 +1,8 @@
 // What a screen shows of an answer, as text in lent bytes: document 01's display. Each function puts a piece of text at a place of the output, as
 // much as fits, and gives the place after it.
-mod plain_run;
-
+use answers::Answer;
 use board::Board;
-use engine::Answer;
 use kinds::Kinds;
-pub use plain_run::display;
 ghost use mathlib.Core.Path.{_≡_};
 ghost use mathlib.Core.List.{[], _∷_};
 ghost use Prim.Native.Nat.{_+_, _*_, _%_, _≤_, _<_};
@@ -13,7 +10,7 @@ ghost use Rattle.files.specs.Display.{digitsBefore, decimal};
 ghost use Rattle.files.specs.Marks.{isMark};
 ghost use Rattle.files.specs.InPlace.{byteAt, twoAt, manyAt, factAt, recordsAt, boardAt};
 ghost use Rattle.kinds.specs.Listed.{kindsOf};
-ghost use Rattle.engine.specs.Shown.{answerOf};
+ghost use Rattle.answers.specs.Shown.{answerOf};
 ghost use Rattle.screen.specs.Put.{reached, put as put·};
 ghost use Rattle.screen.specs.Text.{numbersText, fileText, endLine, refusalLine, boardLines, answerText};
 ghost use Rattle.screen.specs.Shows.{RowPut, RowsPut, TextPut};

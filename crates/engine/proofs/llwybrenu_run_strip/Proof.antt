@@ -1,7 +1,7 @@
 -- The entry answers what the run says, and the output is what the run leaves.
 use borrow.Author.Needs.{needs}
 use mathlib.Core.Path.{ap, _∙_}
-use Rattle.engine.specs.Shown.{shown}
+use Rattle.answers.specs.Shown.{shown}
 use Rattle.engine.proofs.llwybrenu_run_strip.Statement.{statement}
 use Rattle.engine.proofs.llwybrenu_run_strip.Tie as tie
 

@@ -1,7 +1,7 @@
 -- The entry answers what the translation says, and the output is what the translation leaves.
 use mathlib.Core.Path.{ap, _∙_}
 use borrow.Author.Needs.{needs}
-use Rattle.engine.specs.Shown.{shown}
+use Rattle.answers.specs.Shown.{shown}
 use Rattle.engine.proofs.llwybrenu_translate.Statement.{statement}
 use Rattle.engine.proofs.llwybrenu_translate.Tie as tie
 

@@ -1,10 +1,10 @@
 // Document 01's display: the plain run of two files, as text.
-use crate::text;
 use board::Board;
 use engine::llwybrenu_run_book;
+use screen::text;
 ghost use mathlib.Core.Path.{_≡_};
 ghost use Rattle.screen.specs.Shows.{TextPut};
 ghost use Rattle.screen.specs.Displayed.{screenText};
 
 // A length as a size.
 fn size(length: u32) -> usize

@@ -4,7 +4,7 @@ use mathlib.Core.Path.{_≡_, ap}
 use lib.Dec.{ltb}
 use Rattle.meaning.specs.Basics.{if_then_else_}
 use Rattle.files.specs.Numbers as N
-use Rattle.engine.specs.declared.Answer.{Answer}
+use Rattle.answers.specs.declared.Answer.{Answer}
 
 abbrev pub answerOf : Answer → N.Answer
 answerOf a = record { number = a .number; file = a .file; place = a .place; length = a .length; firings = a .firings; rule = a .rule }

@@ -20,10 +20,10 @@ use Rattle.files.specs.Book.{judgeBook}
 use Rattle.files.specs.InPlace.{kindsAt, boardAt}
 use Rattle.files.specs.Display.{displayLimit}
 use Rattle.files.specs.Entries.{Outcome, nothingWritten, bytesAfter, ifAccepted, ifRoom, runOutcome, runBookFile}
-use Rattle.engine.specs.Shown.{shown, atMostPlace, mostPlace}
+use Rattle.answers.specs.Shown.{shown, atMostPlace, mostPlace}
 use Rattle.screen.specs.Text.{answerText}
 use Rattle.screen.specs.Shows.{TextPut}
 use Rattle.screen.specs.Displayed.{screenText}
 
 -- the answer's length is that of what is written
 abbrev Measured : Outcome → Type 0

@@ -3,10 +3,10 @@ use Prim.Native.Nat.{ℕ}
 use mathlib.Core.List.{List}
 use lib.ListN.{replicate, length-replicate}
 use Rattle.meaning.specs.Facts.{longestBoard}
-use Rattle.screen.proofs.RunLaws.{size-fits, size-part, displayed}
+use Rattle.display.proofs.RunLaws.{size-fits, size-part, displayed}
 use borrow.Author.Needs.{needs}
-use Rattle.screen.proofs.plain_run.display.Statement.{statement}
-use Rattle.screen.proofs.plain_run.display.Tie as tie
+use Rattle.display.proofs.plain_run.display.Statement.{statement}
+use Rattle.display.proofs.plain_run.display.Tie as tie
 
 -- the output of the run, before it
 abbrev zeros : List ℕ
