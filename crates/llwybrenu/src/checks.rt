@@ -1,9 +1,11 @@
-// The commands that run nothing: check, check-strip and translate. Each is true: its words made a command, whatever came of it.
-use crate::arguments::read;
+// The commands that run nothing: check, check-strip, list and translate. Each is true: its words made a command, whatever came of it.
 use crate::refusals::refuse;
 use answers::Answer;
 use board::Board;
 use book::Book;
+use command::arguments::read;
+use command::arguments::write;
+use command::listing::say_strip;
 use strip::Strip;
 use terminal::say;
 
@@ -55,6 +57,23 @@ pub fn check_strip() -> bool {
     true
 }
 
+// list STRIP
+pub fn list() -> bool {
+    let mut strip = [0; Strip::LONGEST + 1];
+    let found = read(2, &mut strip);
+    if !found.is_read {
+        return true;
+    }
+    let n = found.bytes;
+    let answer = engine::llwybrenu_check_strip(&strip[..n]);
+    if answer.number == 0 {
+        say_strip(&strip[..n]);
+    } else {
+        refuse(answer, &strip[..n], b"");
+    }
+    true
+}
+
 // translate BOOK -o STRIP
 pub fn translate(target: usize) -> bool {
     let mut book = [0; Book::LONGEST + 1];
@@ -70,7 +89,7 @@ pub fn translate(target: usize) -> bool {
         return true;
     }
     let end = io::count(answer.length as isize, &strip);
-    if crate::arguments::write(target, &strip[..end]) {
+    if write(target, &strip[..end]) {
         say(b"translated: ");
         io::print_decimal(libc::STDOUT_FILENO, (end / 8) as u64);
         say(b" words\n");

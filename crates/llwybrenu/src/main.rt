@@ -1,12 +1,10 @@
 // The command `llwybrenu`: a word says what to do, the words after it name the files. What it finds goes to standard output; how it is used, and a
 // file that can't be read or written, to standard error. A program of Rattle has no exit status: the script `llwybrenu` of this repository gives it.
-mod arguments;
 mod checks;
-mod listing;
 mod refusals;
 mod runs_of;
 
-use arguments::is_word;
+use command::arguments::is_word;
 use wording::usage::help;
 use wording::usage::usage;
 
@@ -31,7 +29,7 @@ fn obey(words: usize, target: usize) -> bool {
         return words == 3 && checks::check_strip();
     }
     if is_word(1, b"list") {
-        return words == 3 && listing::list();
+        return words == 3 && checks::list();
     }
     if is_word(1, b"help") {
         usage(libc::STDOUT_FILENO);

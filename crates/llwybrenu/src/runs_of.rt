@@ -1,10 +1,11 @@
 // The commands that run a book or a strip on a board: the display's lines, and the board that the run ends with.
-use crate::arguments::number;
-use crate::arguments::read;
 use crate::refusals::refuse;
 use answers::Answer;
 use board::Board;
 use book::Book;
+use command::arguments::number;
+use command::arguments::read;
+use command::arguments::write;
 use kinds::Kinds;
 use screen::Screen;
 use strip::Strip;
@@ -27,7 +28,7 @@ fn settle(answer: Answer, kinds: Kinds, first: &[u8], board: &[u8], after: &[u8]
         return;
     }
     let n = io::count(answer.length as isize, after);
-    if target != 0 && !crate::arguments::write(target, &after[..n]) {
+    if target != 0 && !write(target, &after[..n]) {
         return;
     }
     let mut text = [0; Screen::BYTES];

@@ -1,8 +1,8 @@
 -- `say_bytes` goes from byte to byte. The measure: how many are left.
 use Prim.Native.Nat.{_-_}
 use borrow.Author.Needs.{needs}
-use Rattle.llwybrenu.proofs.refusals.say_bytes.Statement.{statement}
-use Rattle.llwybrenu.proofs.refusals.say_bytes.Tie as tie
+use Rattle.command.proofs.refusals.say_bytes.Statement.{statement}
+use Rattle.command.proofs.refusals.say_bytes.Tie as tie
 
 abbrev Inv-loop : tie.InvT-loop
 Inv-loop bytes most end at₀ t6 t7 at = Unit {0}

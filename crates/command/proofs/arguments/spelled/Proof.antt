@@ -2,8 +2,8 @@
 use Prim.Native.Nat.{_-_}
 use lib.ListN.{length}
 use borrow.Author.Needs.{needs}
-use Rattle.llwybrenu.proofs.arguments.spelled.Statement.{statement}
-use Rattle.llwybrenu.proofs.arguments.spelled.Tie as tie
+use Rattle.command.proofs.arguments.spelled.Statement.{statement}
+use Rattle.command.proofs.arguments.spelled.Tie as tie
 
 abbrev Inv-loop : tie.InvT-loop
 Inv-loop text number₀ next₀ number next = Unit {0}

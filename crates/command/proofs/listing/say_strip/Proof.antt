@@ -1,8 +1,8 @@
 -- `say_strip` goes from word to word. The measure: the bytes that are left.
 use Prim.Native.Nat.{_-_}
 use borrow.Author.Needs.{needs}
-use Rattle.llwybrenu.proofs.listing.say_strip.Statement.{statement}
-use Rattle.llwybrenu.proofs.listing.say_strip.Tie as tie
+use Rattle.command.proofs.listing.say_strip.Statement.{statement}
+use Rattle.command.proofs.listing.say_strip.Tie as tie
 
 abbrev Inv-loop : tie.InvT-loop
 Inv-loop strip end at₀ at = Unit {0}

@@ -1,8 +1,6 @@
-// The command `list`: a strip's words, one a line, each after its number.
+// A strip's words, one a line, each after its number.
 ghost use Prim.Native.Nat.{_<_};
-use crate::arguments::read;
 use crate::refusals::least;
-use crate::refusals::refuse;
 use fields::byte_at;
 use fields::two_at;
 use strip::Strip;
@@ -29,28 +27,11 @@ fn say_line(strip: &[u8], at: usize)
 }
 
 // Every word of an accepted strip.
-fn say_strip(strip: &[u8]) {
+pub fn say_strip(strip: &[u8]) {
     let end = least(strip.len(), Strip::LONGEST);
     let mut at = 0;
     while at < end {
         say_line(strip, at);
         at += Strip::WORD;
     }
-}
-
-// list STRIP
-pub fn list() -> bool {
-    let mut strip = [0; Strip::LONGEST + 1];
-    let found = read(2, &mut strip);
-    if !found.is_read {
-        return true;
-    }
-    let n = found.bytes;
-    let answer = engine::llwybrenu_check_strip(&strip[..n]);
-    if answer.number == 0 {
-        say_strip(&strip[..n]);
-    } else {
-        refuse(answer, &strip[..n], b"");
-    }
-    true
 }
