@@ -3,15 +3,14 @@ use Prim.Native.Nat.{ℕ, _≤_, _<_}
 use native.Mathlib.Omega.{arith}
 use mathlib.Core.Path.{_≡_, refl, sym, ap, ap₂, subst, _∙_}
 use mathlib.Core.Bool.{Bool, true, false}
-use mathlib.Core.List.{List, [], _++_}
+use mathlib.Core.List.{List}
 use lib.ListN.{length, take, drop, length-append}
 use lib.Seq.{take-at, length-take-le}
 use lib.Dec.{ltb}
 use borrow.Author.Tests.{lt-ltb}
 use Rattle.meaning.specs.Basics.{if_then_else_}
 use Rattle.meaning.specs.Facts.{Kind, Board, longestBoard}
-use Rattle.meaning.specs.Rules.{Book}
-use Rattle.meaning.specs.Firing.{Ran, run}
+use Rattle.meaning.specs.Firing.{run}
 use Rattle.files.specs.Numbers as N
 use Rattle.files.specs.Numbers.{File, book, board, SHORT, output}
 use Rattle.files.specs.Judge.{Verdict, accepted, refused}

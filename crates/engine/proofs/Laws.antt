@@ -6,9 +6,8 @@ use mathlib.Core.Option.{Option, none, some}
 use mathlib.Core.List.{List}
 use native.Mathlib.Omega.{arith}
 use borrow.Author.Tests.{lt-ltb, le-ltb}
-use Rattle.meaning.specs.Facts.{Kind, Board}
+use Rattle.meaning.specs.Facts.{Kind}
 use Rattle.meaning.specs.Rules.{Book}
-use Rattle.meaning.specs.Words.{Word}
 use Rattle.files.specs.Numbers as N
 use Rattle.files.specs.Numbers.{Refusal, refusalNumber, File, fileNumber, book, strip, board}
 use Rattle.files.specs.Judge.{Bytes, Verdict, accepted, refused, told}
@@ -16,7 +15,7 @@ use Rattle.files.specs.InPlace.{kindsAt}
 use Rattle.files.specs.Board.{judgeBoard}
 use Rattle.files.specs.Book.{judgeBook}
 use Rattle.files.specs.Strip.{judgeStrip}
-use Rattle.files.specs.Entries.{Outcome, nothingWritten, ifAccepted, tellsNothing, toldAnswer, checkBook, checkBoard, checkStrip}
+use Rattle.files.specs.Entries.{nothingWritten, ifAccepted, tellsNothing, toldAnswer, checkBook, checkBoard, checkStrip}
 use Rattle.book_encoding.specs.Placed.{book-in-place}
 use Rattle.book.specs.Told.{bookTold}
 use Rattle.book.specs.declared.BookChecked.{BookChecked}

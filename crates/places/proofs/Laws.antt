@@ -1,18 +1,17 @@
 -- The loops over records: what is counted so far and what is left to count make the whole.
 use Prim.Native.Nat.{ℕ, zero, suc, _+_, _*_, _-_, _≤_, _<_}
 use native.Mathlib.Omega.{arith}
-use mathlib.Core.Path.{_≡_, refl, sym, ap, _∙_, subst}
+use mathlib.Core.Path.{_≡_, refl, sym, ap, _∙_}
 use mathlib.Core.Bool.{Bool, true, false, not}
 use mathlib.Core.List.{List}
-use lib.ListN.{length, getD, List·getD-eq-default}
+use lib.ListN.{getD}
 use lib.Dec.{eqb}
 use borrow.Author.Tests.{le-ltb, lt-ltb, eq-eqb, ne-eqb, not-true, not-false}
 use Rattle.meaning.specs.Facts.{Kind, longestBook, mostInRule, mostInSweep, arityOf}
 use Rattle.files.specs.Marks.{BA, HE, SW}
-use Rattle.files.specs.InPlace.{byteAt, twoAt}
-use Rattle.places.specs.Stands.{markStands, termStands, zeroTerm, testStands, atomSize, atomEnd, recordsFrom, atomsFrom, testsFrom, groupsOf, groupsFrom, groupsEnd, sweepsFrom, ruleEnd}
+use Rattle.files.specs.InPlace.{byteAt}
+use Rattle.places.specs.Stands.{markStands, atomSize, atomEnd, recordsFrom, atomsFrom, testsFrom, groupsOf, groupsFrom, groupsEnd, sweepsFrom, ruleEnd}
 use Rattle.places.specs.StandsLaws.{stands-near}
-use Rattle.places.specs.declared.Term.{Term}
 use Rattle.places.specs.declared.Span.{Span}
 use Rattle.places.specs.declared.Groups.{Groups}
 
@@ -29,21 +28,7 @@ module _ (file mark : List ℕ) (p : ℕ) where
     pub mark-first : (a ≡ getD mark 0 0 → ⊥) → eqb a (getD mark 0 0) ≡ markStands file mark p
     mark-first h = rw (lt-ltb p longestBook near, ← first, ne-eqb a (getD mark 0 0) h)
 
--- ---- terms, tests and atoms
-
-pub term-past : (file : List ℕ) (p : ℕ) → length file ≤ p → zeroTerm ≡ termStands file p
-term-past file p h =
-    rw (List·getD-eq-default file 0 h, List·getD-eq-default file 0 {n = p + 1} (omega arith), List·getD-eq-default file 0 {n = p + 1 + 1} (omega arith))
-
-pub term-here : (file : List ℕ) (p tag value : ℕ) → tag ≡ byteAt file p → value ≡ twoAt file (p + 1) → record { tag = tag; value = value } ≡ termStands file p
-term-here file p tag value e h = rw (e, h)
-
-pub test-far : (file : List ℕ) (p : ℕ) → longestBook ≤ p → record { number = 0; left = zeroTerm; right = zeroTerm } ≡ testStands file p
-test-far file p h = rw (le-ltb p longestBook h)
-
-pub test-here : (file : List ℕ) (p number : ℕ) (left right : Term) → p < longestBook → number ≡ byteAt file p → left ≡ termStands file (p + 1)
-    → right ≡ termStands file (p + 4) → record { number = number; left = left; right = right } ≡ testStands file p
-test-here file p number left right near n l r = rw (lt-ltb p longestBook near, l, r, n)
+-- ---- atoms
 
 pub size-is : (file : List ℕ) (kinds : List Kind) (p kind arity wide : ℕ) → kind ≡ byteAt file p → arity ≡ arityOf kinds kind → (wide ≡ arity) × (wide < 256)
     → (1 + 3 * wide ≡ atomSize file kinds p) × (1 + 3 * wide < 1000)

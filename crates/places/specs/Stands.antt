@@ -6,28 +6,13 @@ use mathlib.Core.List.{List}
 use lib.Dec.{ltb}
 use Rattle.meaning.specs.Basics.{if_then_else_}
 use Rattle.meaning.specs.Facts.{Kind, longestBook, mostInRule, mostInSweep, mostSweeps, arityOf}
-use Rattle.files.specs.Marks.{isMark, RU, BA, TE, HE, SW}
-use Rattle.files.specs.InPlace.{byteAt, twoAt}
-use Rattle.places.specs.declared.Term.{Term}
-use Rattle.places.specs.declared.Test.{Test}
+use Rattle.files.specs.Marks.{isMark, BA, TE, HE, SW}
+use Rattle.files.specs.InPlace.{byteAt}
 use Rattle.places.specs.declared.Span.{Span}
 use Rattle.places.specs.declared.Groups.{Groups}
 
 abbrev pub markStands : List ℕ → List ℕ → ℕ → Bool
 markStands file mark p = ltb p longestBook && isMark mark (byteAt file p) (byteAt file (p + 1))
-
--- a term's two fields; the term that they are is `termAt` of crates/files
-abbrev pub termStands : List ℕ → ℕ → Term
-termStands file p = record { tag = byteAt file p; value = twoAt file (p + 1) }
-
-abbrev pub zeroTerm : Term
-zeroTerm = record { tag = 0; value = 0 }
-
--- a test's fields
-abbrev pub testStands : List ℕ → ℕ → Test
-testStands file p =
-    if ltb p longestBook then record { number = byteAt file p; left = termStands file (p + 1); right = termStands file (p + 4) }
-    else record { number = 0; left = zeroTerm; right = zeroTerm }
 
 -- a kind, and three bytes for each argument
 abbrev pub atomSize : List ℕ → List Kind → ℕ → ℕ
@@ -82,6 +67,3 @@ module _ (file : List ℕ) where
     -- the place after a rule, whose body stands at the place given
     unfoldable pub ruleEnd : ℕ → ℕ
     ruleEnd p = sweepsFrom (groupsEnd mostInRule p) .next
-
-    abbrev pub rulesFrom : ℕ → ℕ → Span
-    rulesFrom most p = recordsFrom file RU ruleEnd most 0 p

@@ -8,13 +8,13 @@ use mathlib.Core.Bool.{Bool, true, false, _&&_}
 use mathlib.Core.List.{List, []}
 use lib.ListN.{length, getD, List·getD-eq-default}
 use lib.Dec.{eqb, ltb}
-use borrow.Author.Tests.{ltb-true, ltb-false, lt-ltb, ne-eqb}
+use borrow.Author.Tests.{ltb-true, ltb-false, ne-eqb}
 use Rattle.meaning.specs.Basics.{if_then_else_}
 use Rattle.meaning.specs.Facts.{Kind, longestBook, mostInRule, mostInSweep, mostSweeps}
 use Rattle.meaning.specs.Rules.{Atom, Test}
-use Rattle.files.specs.Marks.{isMark, RU, BA, TE, HE, SW}
-use Rattle.files.specs.InPlace.{byteAt, termOf, termAt, testAt, atomAt, groupsAt, ruleAt, comparisonOf, Read, prepend, recordsAt}
-use Rattle.places.specs.Stands.{markStands, termStands, testStands, atomEnd, recordsFrom, atomsFrom, testsFrom, groupsOf, groupsFrom, groupsEnd, sweepsFrom, ruleEnd, rulesFrom}
+use Rattle.files.specs.Marks.{isMark, BA, TE, HE, SW}
+use Rattle.files.specs.InPlace.{byteAt, testAt, atomAt, groupsAt, ruleAt, Read, prepend, recordsAt}
+use Rattle.places.specs.Stands.{markStands, atomEnd, recordsFrom, atomsFrom, testsFrom, groupsOf, groupsFrom, groupsEnd, sweepsFrom, ruleEnd}
 use Rattle.places.specs.declared.Span.{Span}
 use Rattle.places.specs.declared.Groups.{Groups}
 
@@ -65,14 +65,6 @@ from-is {A} file mark after item short letter ends (suc left) n p =
     by true read h = h
     by false read h = ap (λ (k : ℕ). record { count = k; next = p }) (sym (add-zero n))
 
--- the fields are those of the term and of the test that InPlace reads
-pub term-is : (file : List ℕ) (p : ℕ) → termOf (termStands file p .tag) (termStands file p .value) ≡ termAt file p
-term-is file p = refl
-
-pub test-is : (file : List ℕ) (p : ℕ) → p < longestBook → let t = testStands file p in
-    record { comparison = comparisonOf (t .number); left = termOf (t .left .tag) (t .left .value); right = termOf (t .right .tag) (t .right .value) } ≡ testAt file p .value
-test-is file p near = rw (lt-ltb p longestBook near)
-
 -- ---- groups, sweeps and rules
 
 module _ (file : List ℕ) (kinds : List Kind) (short : length file ≤ longestBook) where
@@ -111,6 +103,3 @@ module _ (file : List ℕ) (kinds : List Kind) (short : length file ≤ longestB
   rule-end-at p =
       ap (λ (own : ℕ). sweepsFrom file kinds own .next) (groups-end-at mostInRule p)
       ∙ ap (λ (s : Span). s .next) (sweeps-are (groupsAt file kinds mostInRule p .next))
-
-  pub rules-are : (most p : ℕ) → rulesFrom file kinds most p ≡ counted 0 (recordsAt file RU (ruleAt file kinds) most p)
-  rules-are most p = from-is file RU (ruleEnd file kinds) (ruleAt file kinds) short (λ h. omega (arith, h)) (λ q. sym (rule-end-at q)) most 0 p

@@ -1,20 +1,19 @@
 -- The walk over a book's rules. The loop's invariant, `Placing`: the places found so far, and those from here on, are all the rules' places.
 use Prim.Native.Nat.{ℕ, zero, suc, _+_, _*_, _-_, _^_, _≤_, _<_}
-use native.Mathlib.Nat.{add-zero, zero-add}
+use native.Mathlib.Nat.{zero-add}
 use native.Mathlib.Omega.{arith}
 use mathlib.Core.Path.{_≡_, refl, sym, ap, ap₂, _∙_}
 use mathlib.Core.Bool.{Bool, true, false, not}
 use mathlib.Core.List.{List, [], _∷_, _++_, append-assoc, append-nil}
-use lib.ListN.{length, getD, set, replicate, length-set}
+use lib.ListN.{length, set, replicate, length-set}
 use lib.Seq.{getD-set-same, getD-set-other}
-use lib.Dec.{leb}
 use borrow.Author.Tests.{le-leb, not-true, not-false}
 use Rattle.meaning.specs.Basics.{if_then_else_}
 use Rattle.meaning.specs.Facts.{Kind, mostKinds, mostRules, longestBook}
 use Rattle.files.specs.Marks.{KD, RU, isMark}
-use Rattle.files.specs.InPlace.{Read, byteAt, prepend, recordsAt, kindAt, ruleAt, kindsAt}
+use Rattle.files.specs.InPlace.{byteAt, prepend, recordsAt, kindAt, ruleAt, kindsAt}
 use Rattle.kinds.specs.declared.Kinds.{Kinds}
-use Rattle.kinds.specs.Listed.{kindsOf, inRange}
+use Rattle.kinds.specs.Listed.{kindsOf}
 use Rattle.kinds.specs.KindLaws.{kinds-length}
 use Rattle.places.specs.Stands.{markStands, ruleEnd}
 use Rattle.places.specs.StandsLaws.{stands-near, stands-is, rule-end-at}

@@ -3,8 +3,7 @@ use Prim.Native.Nat.{ℕ, _+_, _≤_, _<_}
 use mathlib.Core.Path.{_≡_, sym, ap, _∙_, subst}
 use mathlib.Core.List.{List}
 use Rattle.meaning.specs.Facts.{Kind, Board}
-use Rattle.meaning.specs.Rules.{Book}
-use Rattle.meaning.specs.Firing.{Firing, quiet, full, fired, fire, Attempt, done, Quiet, Full, ended, run}
+use Rattle.meaning.specs.Firing.{quiet, full, fire, Attempt, done, Quiet, Full, ended, run}
 use Rattle.meaning.specs.WellFormed.{GoodBoard}
 use Rattle.files.specs.InPlace.{bookAt}
 use Rattle.firings.specs.Keeping.{firing-keeps-good}

@@ -1,13 +1,12 @@
 -- The text that the display program makes from the engine's answer, and that it is document 01's text, byte for byte.
 use Prim.Native.Nat.{ℕ, _≤_, _<_}
 use native.Mathlib.Omega.{arith}
-use mathlib.Core.Path.{_≡_, refl, sym, ap, ap₂, _∙_}
+use mathlib.Core.Path.{_≡_, refl, ap, _∙_}
 use mathlib.Core.Logic.{inl, inr}
 use mathlib.Core.List.{List, []}
-use lib.ListN.{length, replicate, length-replicate}
-use lib.Dec.{ltb}
+use lib.ListN.{length}
 use borrow.Author.Tests.{lt-ltb, le-ltb, ne-eqb}
-use Rattle.meaning.specs.Facts.{Kind, Board, longestBoard}
+use Rattle.meaning.specs.Facts.{Board, longestBoard}
 use Rattle.meaning.specs.Rules.{Book}
 use Rattle.meaning.specs.Firing.{End, Quiet, Limit, Full, Spent, Stuck, Ran, run}
 use Rattle.meaning.specs.WellFormed.{GoodBoard}
@@ -17,15 +16,15 @@ use Rattle.files.specs.Board.{judgeBoard}
 use Rattle.files.specs.Book.{judgeBook}
 use Rattle.files.specs.InPlace.{kindsAt, boardAt}
 use Rattle.files.specs.Encode.{encodeBoard}
-use Rattle.files.specs.Entries.{Outcome, nothingWritten, ifAccepted, runOutcome, runBookFile}
-use Rattle.files.specs.Display.{display, displayLimit, ranLines, refusedLine, bookText, boardText}
+use Rattle.files.specs.Entries.{runBookFile}
+use Rattle.files.specs.Display.{display, displayLimit, ranLines, refusedLine}
 use Rattle.book_encoding.specs.Placed.{book-in-place}
 use Rattle.encoding.specs.Boards.{board-accepted, board-encoded, board-in-place}
 use Rattle.book_encoding.specs.Accepted.{book-accepted}
 use Rattle.firings.specs.Keeping.{run-keeps-good}
 use Rattle.promises.specs.Promises.{PlaceIs}
 use Rattle.kept.specs.DemandOneKept.{demand-one}
-use Rattle.answers.specs.Shown.{shown, atMostPlace, mostPlace}
+use Rattle.answers.specs.Shown.{shown, mostPlace}
 use Rattle.screen.specs.Text.{fileText, answerText}
 
 -- what the engine answers for the two files, as text

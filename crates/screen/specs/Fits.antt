@@ -5,7 +5,7 @@ use native.Mathlib.Omega.{arith}
 use mathlib.Core.Path.{_≡_, refl, sym, ap, ap₂, _∙_}
 use mathlib.Core.Bool.{Bool, true, false}
 use mathlib.Core.List.{List, [], _∷_, _++_, append-assoc}
-use lib.ListN.{length, take, drop, set, length-append}
+use lib.ListN.{length, take, drop, length-append}
 use lib.Seq.{take-at, set-append-seam}
 use lib.Dec.{ltb}
 use borrow.Author.Tests.{lt-ltb}
@@ -13,13 +13,13 @@ use Rattle.meaning.specs.Basics.{if_then_else_, All}
 use Rattle.meaning.specs.Facts.{Kind, Fact, Board, arityOf, mostKinds, mostNumbers, numberLimit}
 use Rattle.meaning.specs.Rules.{Book}
 use Rattle.meaning.specs.Firing.{End, Quiet, Limit, Full, Spent, Stuck, Ran, run}
-use Rattle.meaning.specs.WellFormed.{GoodKind, GoodFact, GoodBoard, GoodBook}
-use Rattle.files.specs.Numbers.{Refusal, CUT, MARK, PLACE, NOCARD, BARE, MANY, FIELD, LOOSE, TRAIL, SHORT, STRIP, refusalNumber, endNumber}
+use Rattle.meaning.specs.WellFormed.{GoodKind, GoodFact, GoodBoard}
+use Rattle.files.specs.Numbers.{Refusal, refusalNumber, endNumber}
 use Rattle.files.specs.Judge.{Bytes, Verdict, accepted, refused}
 use Rattle.files.specs.Board.{judgeBoard}
 use Rattle.files.specs.Book.{judgeBook}
 use Rattle.files.specs.Encode.{concatMap}
-use Rattle.files.specs.Display.{digitsBefore, decimal, space, newline, rowLine, cardText, noticeText, firedText, endText, ruleText, refusedText, bookText, boardText, ranLines, refusedLine, orRefusedLine, display, displayLimit}
+use Rattle.files.specs.Display.{digitsBefore, decimal, space, newline, rowLine, cardText, noticeText, endText, ruleText, bookText, boardText, ranLines, refusedLine, orRefusedLine, display, displayLimit}
 use Rattle.book_encoding.specs.Accepted.{book-accepted}
 use Rattle.encoding.specs.Boards.{board-accepted}
 use Rattle.firings.specs.Keeping.{run-keeps-good}

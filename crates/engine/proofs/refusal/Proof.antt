@@ -1,7 +1,5 @@
 -- `refusal` has document 01's values for a refusal.
 use borrow.Author.Needs.{needs}
-use mathlib.Core.Path.{ap}
-use Prim.Native.Nat.{ℕ}
 use Rattle.files.specs.Numbers as N
 use Rattle.engine.proofs.refusal.Statement.{statement}
 use Rattle.engine.proofs.refusal.Tie as tie
