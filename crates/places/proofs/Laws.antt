@@ -4,16 +4,17 @@ use native.Mathlib.Omega.{arith}
 use mathlib.Core.Path.{_≡_, refl, sym, ap, _∙_}
 use mathlib.Core.Bool.{Bool, true, false, not}
 use mathlib.Core.List.{List}
-use lib.ListN.{getD}
+use lib.ListN.{length, getD, List·getD-eq-default}
 use lib.Dec.{eqb}
 use borrow.Author.Tests.{le-ltb, lt-ltb, eq-eqb, ne-eqb, not-true, not-false}
-use Rattle.meaning.specs.Facts.{Kind, longestBook, mostInRule, mostInSweep, arityOf}
-use Rattle.files.specs.Marks.{BA, HE, SW}
-use Rattle.files.specs.InPlace.{byteAt}
-use Rattle.places.specs.Stands.{markStands, atomSize, atomEnd, recordsFrom, atomsFrom, testsFrom, groupsOf, groupsFrom, groupsEnd, sweepsFrom, ruleEnd}
+use Rattle.meaning.specs.Facts.{Kind, longestBook, mostInRule, arityOf}
+use Rattle.files.specs.Marks.{BA, HE}
+use Rattle.files.specs.InPlace.{byteAt, twoAt}
+use Rattle.places.specs.Stands.{markStands, termStands, zeroTerm, testStands, atomSize, atomEnd, recordsFrom, atomsFrom, testsFrom, conditionsOf, conditionsFrom, groupsEnd, sweepsFrom, ruleEnd}
 use Rattle.places.specs.StandsLaws.{stands-near}
+use Rattle.places.specs.declared.Term.{Term}
 use Rattle.places.specs.declared.Span.{Span}
-use Rattle.places.specs.declared.Groups.{Groups}
+use Rattle.places.specs.declared.Conditions.{Conditions}
 
 -- ---- marks
 
@@ -28,7 +29,21 @@ module _ (file mark : List ℕ) (p : ℕ) where
     pub mark-first : (a ≡ getD mark 0 0 → ⊥) → eqb a (getD mark 0 0) ≡ markStands file mark p
     mark-first h = rw (lt-ltb p longestBook near, ← first, ne-eqb a (getD mark 0 0) h)
 
--- ---- atoms
+-- ---- terms, tests and atoms
+
+pub term-past : (file : List ℕ) (p : ℕ) → length file ≤ p → zeroTerm ≡ termStands file p
+term-past file p h =
+    rw (List·getD-eq-default file 0 h, List·getD-eq-default file 0 {n = p + 1} (omega arith), List·getD-eq-default file 0 {n = p + 1 + 1} (omega arith))
+
+pub term-here : (file : List ℕ) (p tag value : ℕ) → tag ≡ byteAt file p → value ≡ twoAt file (p + 1) → record { tag = tag; value = value } ≡ termStands file p
+term-here file p tag value e h = rw (e, h)
+
+pub test-far : (file : List ℕ) (p : ℕ) → longestBook ≤ p → record { number = 0; left = zeroTerm; right = zeroTerm } ≡ testStands file p
+test-far file p h = rw (le-ltb p longestBook h)
+
+pub test-here : (file : List ℕ) (p number : ℕ) (left right : Term) → p < longestBook → number ≡ byteAt file p → left ≡ termStands file (p + 1)
+    → right ≡ termStands file (p + 4) → record { number = number; left = left; right = right } ≡ testStands file p
+test-here file p number left right near n l r = rw (lt-ltb p longestBook near, l, r, n)
 
 pub size-is : (file : List ℕ) (kinds : List Kind) (p kind arity wide : ℕ) → kind ≡ byteAt file p → arity ≡ arityOf kinds kind → (wide ≡ arity) × (wide < 256)
     → (1 + 3 * wide ≡ atomSize file kinds p) × (1 + 3 * wide < 1000)
@@ -95,17 +110,16 @@ atoms-go file mark kinds most at count next c l t e h s q =
 -- ---- groups and rules
 
 module _ (file : List ℕ) (kinds : List Kind) where
-  pub groups-are-found : (most at : ℕ) (body tested heads : Span) → body ≡ atomsFrom file kinds BA most at → tested ≡ testsFrom file most (body .next)
-      → heads ≡ atomsFrom file kinds HE most (tested .next) → groupsOf at body tested heads ≡ groupsFrom file kinds most at
-  unfolding groupsFrom
-  groups-are-found most at body tested heads b t h = rw (h, t, b)
+  pub conditions-is : (most at : ℕ) (body tested : Span) → body ≡ atomsFrom file kinds BA most at → tested ≡ testsFrom file most (body .next)
+      → conditionsOf at body tested ≡ conditionsFrom file kinds most at
+  unfolding conditionsFrom
+  conditions-is most at body tested b t = rw (t, b)
 
-  pub sweeps-go : (most at count next : ℕ) → Counts file SW (groupsEnd file kinds mostInSweep) most at count next → count < most
-      → (t : Bool) → t ≡ markStands file SW next → not t ≡ false → (own : Groups) → own ≡ groupsFrom file kinds mostInSweep (next + 2)
-      → Counts file SW (groupsEnd file kinds mostInSweep) most at (count + 1) (own .next)
-  sweeps-go most at count next c l t e h own q =
-      count-goes file SW (groupsEnd file kinds mostInSweep) most at count next c l t e h (own .next) (ap (λ (g : Groups). g .next) q)
+  pub groups-end-is : (most at : ℕ) (own : Conditions) (heads : Span) → own ≡ conditionsFrom file kinds most at → heads ≡ atomsFrom file kinds HE most (own .«heads_at»)
+      → heads .next ≡ groupsEnd file kinds most at
+  unfolding groupsEnd
+  groups-end-is most at own heads o h = rw (h, o)
 
-  pub rule-end-is : (at : ℕ) (own : Groups) (swept : Span) → own ≡ groupsFrom file kinds mostInRule at → swept ≡ sweepsFrom file kinds (own .next) → swept .next ≡ ruleEnd file kinds at
+  pub rule-end-is : (at own : ℕ) (swept : Span) → own ≡ groupsEnd file kinds mostInRule at → swept ≡ sweepsFrom file kinds own → swept .next ≡ ruleEnd file kinds at
   unfolding ruleEnd
   rule-end-is at own swept o s = rw (s, o)

@@ -6,13 +6,28 @@ use mathlib.Core.List.{List}
 use lib.Dec.{ltb}
 use Rattle.meaning.specs.Basics.{if_then_else_}
 use Rattle.meaning.specs.Facts.{Kind, longestBook, mostInRule, mostInSweep, mostSweeps, arityOf}
-use Rattle.files.specs.Marks.{isMark, BA, TE, HE, SW}
-use Rattle.files.specs.InPlace.{byteAt}
+use Rattle.files.specs.Marks.{isMark, RU, BA, TE, HE, SW}
+use Rattle.files.specs.InPlace.{byteAt, twoAt}
+use Rattle.places.specs.declared.Term.{Term}
+use Rattle.places.specs.declared.Test.{Test}
 use Rattle.places.specs.declared.Span.{Span}
-use Rattle.places.specs.declared.Groups.{Groups}
+use Rattle.places.specs.declared.Conditions.{Conditions}
 
 abbrev pub markStands : List ℕ → List ℕ → ℕ → Bool
 markStands file mark p = ltb p longestBook && isMark mark (byteAt file p) (byteAt file (p + 1))
+
+-- a term's two fields; the term that they are is `termAt` of crates/files
+abbrev pub termStands : List ℕ → ℕ → Term
+termStands file p = record { tag = byteAt file p; value = twoAt file (p + 1) }
+
+abbrev pub zeroTerm : Term
+zeroTerm = record { tag = 0; value = 0 }
+
+-- a test's fields
+abbrev pub testStands : List ℕ → ℕ → Test
+testStands file p =
+    if ltb p longestBook then record { number = byteAt file p; left = termStands file (p + 1); right = termStands file (p + 4) }
+    else record { number = 0; left = zeroTerm; right = zeroTerm }
 
 -- a kind, and three bytes for each argument
 abbrev pub atomSize : List ℕ → List Kind → ℕ → ℕ
@@ -29,17 +44,9 @@ recordsFrom file mark after (suc left) n p =
     let more = recordsFrom file mark after left (suc n) (after (p + 2)) in
     if markStands file mark p then more else record { count = n; next = p }
 
--- the three groups from a place on
-abbrev pub groupsOf : ℕ → Span → Span → Span → Groups
-groupsOf p body tested heads = record {
-  «body_at» = p;
-  body = body .count;
-  «tests_at» = body .next;
-  tests = tested .count;
-  «heads_at» = tested .next;
-  heads = heads .count;
-  next = heads .next;
-}
+-- a body and its tests from a place on
+abbrev pub conditionsOf : ℕ → Span → Span → Conditions
+conditionsOf p body tested = record { «body_at» = p; body = body .count; «tests_at» = body .next; tests = tested .count; «heads_at» = tested .next }
 
 module _ (file : List ℕ) where
   abbrev pub testsFrom : ℕ → ℕ → Span
@@ -49,17 +56,15 @@ module _ (file : List ℕ) where
     abbrev pub atomsFrom : List ℕ → ℕ → ℕ → Span
     atomsFrom mark most p = recordsFrom file mark (atomEnd file kinds) most 0 p
 
-    -- a body, its tests and its heads, at most so many of each, each group from where the one before ends
-    unfoldable pub groupsFrom : ℕ → ℕ → Groups
-    groupsFrom most p =
+    -- a body and its tests, at most so many of each
+    unfoldable pub conditionsFrom : ℕ → ℕ → Conditions
+    conditionsFrom most p =
         let body = atomsFrom BA most p in
-        let tested = testsFrom most (body .next) in
-        let heads = atomsFrom HE most (tested .next) in
-        groupsOf p body tested heads
+        conditionsOf p body (testsFrom most (body .next))
 
-    -- the place after them
-    abbrev pub groupsEnd : ℕ → ℕ → ℕ
-    groupsEnd most p = groupsFrom most p .next
+    -- the place after the heads that follow them
+    unfoldable pub groupsEnd : ℕ → ℕ → ℕ
+    groupsEnd most p = atomsFrom HE most (conditionsFrom most p .«heads_at») .next
 
     abbrev pub sweepsFrom : ℕ → Span
     sweepsFrom p = recordsFrom file SW (groupsEnd mostInSweep) mostSweeps 0 p
@@ -67,3 +72,6 @@ module _ (file : List ℕ) where
     -- the place after a rule, whose body stands at the place given
     unfoldable pub ruleEnd : ℕ → ℕ
     ruleEnd p = sweepsFrom (groupsEnd mostInRule p) .next
+
+    abbrev pub rulesFrom : ℕ → ℕ → Span
+    rulesFrom most p = recordsFrom file RU ruleEnd most 0 p

@@ -8,15 +8,15 @@ use mathlib.Core.Bool.{Bool, true, false, _&&_}
 use mathlib.Core.List.{List, []}
 use lib.ListN.{length, getD, List·getD-eq-default}
 use lib.Dec.{eqb, ltb}
-use borrow.Author.Tests.{ltb-true, ltb-false, ne-eqb}
+use borrow.Author.Tests.{ltb-true, ltb-false, lt-ltb, ne-eqb}
 use Rattle.meaning.specs.Basics.{if_then_else_}
 use Rattle.meaning.specs.Facts.{Kind, longestBook, mostInRule, mostInSweep, mostSweeps}
 use Rattle.meaning.specs.Rules.{Atom, Test}
-use Rattle.files.specs.Marks.{isMark, BA, TE, HE, SW}
-use Rattle.files.specs.InPlace.{byteAt, testAt, atomAt, groupsAt, ruleAt, Read, prepend, recordsAt}
-use Rattle.places.specs.Stands.{markStands, atomEnd, recordsFrom, atomsFrom, testsFrom, groupsOf, groupsFrom, groupsEnd, sweepsFrom, ruleEnd}
+use Rattle.files.specs.Marks.{isMark, RU, BA, TE, HE, SW}
+use Rattle.files.specs.InPlace.{byteAt, termOf, termAt, testAt, atomAt, groupsAt, ruleAt, comparisonOf, Read, prepend, recordsAt}
+use Rattle.places.specs.Stands.{markStands, termStands, testStands, atomEnd, recordsFrom, atomsFrom, testsFrom, conditionsOf, conditionsFrom, groupsEnd, sweepsFrom, ruleEnd, rulesFrom}
 use Rattle.places.specs.declared.Span.{Span}
-use Rattle.places.specs.declared.Groups.{Groups}
+use Rattle.places.specs.declared.Conditions.{Conditions}
 
 -- where a mark stands, the place is within the longest book
 pub stands-near : (file mark : List ℕ) (p : ℕ) → markStands file mark p ≡ true → p < longestBook
@@ -65,6 +65,14 @@ from-is {A} file mark after item short letter ends (suc left) n p =
     by true read h = h
     by false read h = ap (λ (k : ℕ). record { count = k; next = p }) (sym (add-zero n))
 
+-- the fields are those of the term and of the test that InPlace reads
+pub term-is : (file : List ℕ) (p : ℕ) → termOf (termStands file p .tag) (termStands file p .value) ≡ termAt file p
+term-is file p = refl
+
+pub test-is : (file : List ℕ) (p : ℕ) → p < longestBook → let t = testStands file p in
+    record { comparison = comparisonOf (t .number); left = termOf (t .left .tag) (t .left .value); right = termOf (t .right .tag) (t .right .value) } ≡ testAt file p .value
+test-is file p near = rw (lt-ltb p longestBook near)
+
 -- ---- groups, sweeps and rules
 
 module _ (file : List ℕ) (kinds : List Kind) (short : length file ≤ longestBook) where
@@ -75,25 +83,27 @@ module _ (file : List ℕ) (kinds : List Kind) (short : length file ≤ longestB
   pub tests-are : (most p : ℕ) → testsFrom file most p ≡ counted 0 (recordsAt file TE (testAt file) most p)
   tests-are most p = from-is file TE (λ q. q + 7) (testAt file) short (λ h. omega (arith, h)) (λ q. refl) most 0 p
 
-  -- each group stands where the one before ends
-  pub groups-are : (most p : ℕ) →
+  pub atoms-spanned : (mark : List ℕ) → (getD mark 0 0 ≡ 0 → ⊥) → (most p : ℕ) → atomsFrom file kinds mark most p ≡ spanOf (recordsAt file mark (atomAt file kinds) most p)
+  atoms-spanned mark letter most p = atoms-are mark letter most p ∙ none-before (recordsAt file mark (atomAt file kinds) most p)
+
+  -- the tests stand where the body ends
+  pub conditions-are : (most p : ℕ) →
       let body = recordsAt file BA (atomAt file kinds) most p in
       let tests = recordsAt file TE (testAt file) most (body .next) in
-      let heads = recordsAt file HE (atomAt file kinds) most (tests .next) in
-      groupsFrom file kinds most p ≡ groupsOf p (spanOf body) (spanOf tests) (spanOf heads)
-  unfolding groupsFrom
-  groups-are most p =
+      conditionsFrom file kinds most p ≡ conditionsOf p (spanOf body) (spanOf tests)
+  unfolding conditionsFrom
+  conditions-are most p =
       let body : Read (List Atom) = recordsAt file BA (atomAt file kinds) most p in
       let tests : Read (List Test) = recordsAt file TE (testAt file) most (body .next) in
-      let heads : Read (List Atom) = recordsAt file HE (atomAt file kinds) most (tests .next) in
-      ap (λ (s : Span). groupsOf p s (testsFrom file most (s .next)) (atomsFrom file kinds HE most (testsFrom file most (s .next) .next)))
-      (atoms-are BA (λ h. omega (arith, h)) most p ∙ none-before body)
-      ∙ ap (λ (s : Span). groupsOf p (spanOf body) s (atomsFrom file kinds HE most (s .next))) (tests-are most (body .next) ∙ none-before tests)
-      ∙ ap (groupsOf p (spanOf body) (spanOf tests)) (atoms-are HE (λ h. omega (arith, h)) most (tests .next) ∙ none-before heads)
+      ap (λ (s : Span). conditionsOf p s (testsFrom file most (s .next))) (atoms-spanned BA (λ h. omega (arith, h)) most p)
+      ∙ ap (conditionsOf p (spanOf body)) (tests-are most (body .next) ∙ none-before tests)
 
   pub groups-end-at : (most p : ℕ) → groupsEnd file kinds most p ≡ groupsAt file kinds most p .next
-  unfolding groupsAt
-  groups-end-at most p = ap (λ (g : Groups). g .next) (groups-are most p)
+  unfolding groupsEnd groupsAt
+  groups-end-at most p =
+      let tests : Read (List Test) = recordsAt file TE (testAt file) most (recordsAt file BA (atomAt file kinds) most p .next) in
+      ap (λ (own : Conditions). atomsFrom file kinds HE most (own .«heads_at») .next) (conditions-are most p)
+      ∙ ap (λ (s : Span). s .next) (atoms-spanned HE (λ h. omega (arith, h)) most (tests .next))
 
   pub sweeps-are : (p : ℕ) → sweepsFrom file kinds p ≡ counted 0 (recordsAt file SW (groupsAt file kinds mostInSweep) mostSweeps p)
   sweeps-are p = from-is file SW (groupsEnd file kinds mostInSweep) (groupsAt file kinds mostInSweep) short (λ h. omega (arith, h)) (λ q. sym (groups-end-at mostInSweep q)) mostSweeps 0 p
@@ -103,3 +113,6 @@ module _ (file : List ℕ) (kinds : List Kind) (short : length file ≤ longestB
   rule-end-at p =
       ap (λ (own : ℕ). sweepsFrom file kinds own .next) (groups-end-at mostInRule p)
       ∙ ap (λ (s : Span). s .next) (sweeps-are (groupsAt file kinds mostInRule p .next))
+
+  pub rules-are : (most p : ℕ) → rulesFrom file kinds most p ≡ counted 0 (recordsAt file RU (ruleAt file kinds) most p)
+  rules-are most p = from-is file RU (ruleEnd file kinds) (ruleAt file kinds) short (λ h. omega (arith, h)) (λ q. sym (rule-end-at q)) most 0 p

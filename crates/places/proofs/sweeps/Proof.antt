@@ -6,7 +6,7 @@ use Rattle.meaning.specs.Facts.{longestBook, mostInSweep, mostSweeps}
 use Rattle.files.specs.Marks.{SW}
 use Rattle.kinds.specs.Listed.{kindsOf}
 use Rattle.places.specs.Stands.{groupsEnd}
-use Rattle.places.proofs.Laws.{Counts, count-starts, count-stops, count-ends, count-near, sweeps-go}
+use Rattle.places.proofs.Laws.{Counts, count-starts, count-stops, count-ends, count-near, count-goes}
 use Rattle.places.proofs.sweeps.Statement.{statement}
 use Rattle.places.proofs.sweeps.Tie as tie
 
@@ -25,11 +25,11 @@ is-marked-requires c κs = search needs
 returns : tie.Need-returns Inv-loop μ-loop
 returns c = search count-stops
 
-add-groups-at : tie.Need-add-groups-at Inv-loop μ-loop
-add-groups-at c = let near : (c .before .before .before .before .loop .next) < longestBook = search count-near in omega arith
+add-groups-end : tie.Need-add-groups-end Inv-loop μ-loop
+add-groups-end c = let near : (c .before .before .before .before .loop .next) < longestBook = search count-near in omega arith
 
-groups-at-requires : tie.Need-groups-at-requires Inv-loop μ-loop
-groups-at-requires c κs = search needs
+groups-end-requires : tie.Need-groups-end-requires Inv-loop μ-loop
+groups-end-requires c κs = search needs
 
 add-count : tie.Need-add-count Inv-loop μ-loop
 add-count c = search needs
@@ -38,7 +38,7 @@ loop-less : tie.Need-loop-less Inv-loop μ-loop
 loop-less c = search needs
 
 loop-again : tie.Need-loop-again Inv-loop μ-loop
-loop-again c = search sweeps-go
+loop-again c = search count-goes
 
 returns-2 : tie.Need-returns-2 Inv-loop μ-loop
 returns-2 c = search count-ends
@@ -52,8 +52,8 @@ sweeps-spec =
     loop-holds
     is-marked-requires
     returns
-    add-groups-at
-    groups-at-requires
+    add-groups-end
+    groups-end-requires
     add-count
     loop-less
     loop-again
