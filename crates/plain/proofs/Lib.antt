@@ -14,6 +14,7 @@ pub mod MakingLaws
 pub mod SweepLaws
 pub mod SweepGoing
 pub mod GroupLaws
+pub mod GoodLaws
 pub mod LookLaws
 pub mod SweepsLaws
 pub mod RulesLaws
