@@ -151,7 +151,7 @@ fn move_numbers(numbers: &mut [u16], to: usize, distance: usize, count: usize)
 }
 
 // The rows between a used card and the next one move down by a distance; gives the next one. (Its callers give a fixed distance, and each array then
-// moves in blocks.)
+// moves at once.)
 fn move_stretch(
     kind: &mut [u8; 384],
     numbers: &mut [u16; 1536],
