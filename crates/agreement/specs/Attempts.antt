@@ -1,13 +1,12 @@
 -- One attempt of a translated strip: it takes some number of steps; with an allowance of so many it ends as the book's firing does, with less
 -- it is SPENT, and it is never STUCK.
-use Rattle.std.specs.Prelude.{◌≡◌, refl, ℕ, suc, ◌≤◌, ◌<◌, ◌↔◌, ◌⊎◌, List, [], ◌∷◌, ◌++◌, map, length, leb}
+use Rattle.std.specs.Prelude.{◌≡◌, refl, ℕ, suc, ◌≤◌, ◌<◌, ◌↔◌, ◌⊎◌, List, [], ◌∷◌, ◌++◌, map, length, leb, if◌then◌else◌}
 use Rattle.std.proofs.Common.{sym, ◌∙◌, arith, inl, inr, ⊎_elim, length-append, leb-true, leb-false}
 use Rattle.std.proofs.lemmas.Bool.{false≢true, lt-leb}
 use Rattle.std.proofs.Math.Option.{some}
 use Rattle.std.proofs.Math.ListN.{get_elem?}
 use Rattle.std.proofs.lemmas.List.{length-map}
 use Rattle.std.proofs.Math.Seq.{append_snoc}
-use Rattle.meaning.specs.Basics.{if◌then◌else◌}
 use Rattle.meaning.specs.Facts.{Kind, Board}
 use Rattle.meaning.specs.Rules.{Book}
 use Rattle.meaning.specs.Firing.{Firing, fire, done, spent, stuck}

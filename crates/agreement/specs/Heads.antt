@@ -6,7 +6,7 @@ use Rattle.std.proofs.Math.Nat.{add-zero}
 use Rattle.std.proofs.Common.{add-suc, suc-add, lt-ltb}
 use native.Mathlib.Omega.{arith}
 use Rattle.std.proofs.Math.Bool.{false}
-use Rattle.std.proofs.Math.Option.{Option, none, some}
+use Rattle.std.proofs.Math.Option.{Option, some}
 use mathlib.Core.List.{List, [], ◌∷◌, ◌++◌, map, append-nil}
 use Rattle.std.proofs.Math.ListN.{length, replicate, length-append}
 use Rattle.std.proofs.Math.Seq.{set-append_seam, append_snoc}

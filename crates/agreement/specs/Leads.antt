@@ -1,11 +1,10 @@
 -- Steps in a row: `Leads` says that from a state the attempt ends with a firing, and in how many steps at the most. Each word's law takes what
 -- the state after it leads to; so the proofs go backwards, from FIRE and QUIET to the first word.
-use Rattle.std.specs.Prelude.{◌≡◌, refl, ℕ, zero, suc, ◌+◌, ◌≤◌, List, [], ◌∷◌, ◌++◌, length, leb}
+use Rattle.std.specs.Prelude.{◌≡◌, refl, ℕ, zero, suc, ◌+◌, ◌≤◌, List, [], ◌∷◌, ◌++◌, length, leb, if◌then◌else◌}
 use Rattle.std.proofs.Common.{ap, add-zero, arith}
 use Rattle.std.proofs.Math.Option.{some}
 use Rattle.std.proofs.Math.ListN.{get_elem?}
 use Rattle.std.proofs.Math.Dec.{leb-zero, leb-suc-suc, leb-suc-zero}
-use Rattle.meaning.specs.Basics.{if◌then◌else◌}
 use Rattle.meaning.specs.Facts.{Kind, Board}
 use Rattle.meaning.specs.Firing.{Firing, done, spent}
 use Rattle.meaning.specs.Words.{Word, State, going, ends, execute, execute_at, step, attempt_from}

@@ -1,10 +1,9 @@
 -- Made facts: how many there are of a class, and that a made list without room leaves none on the board either, so that PUT's FULL is the
 -- book's.
-use Rattle.std.specs.Prelude.{◌≡◌, refl, ℕ, ◌+◌, ◌≤◌, Bool, true, false, not, ◌&&◌, List, [], ◌∷◌, ◌++◌, length, leb}
+use Rattle.std.specs.Prelude.{◌≡◌, refl, ℕ, ◌+◌, ◌≤◌, Bool, true, false, not, ◌&&◌, List, [], ◌∷◌, ◌++◌, length, leb, if◌then◌else◌}
 use Rattle.std.proofs.Common.{arith, true≢false, length-append, leb-false}
 use Rattle.std.proofs.Math.Bool.{and-false}
 use Rattle.std.proofs.lemmas.Bool.{lt-leb}
-use Rattle.meaning.specs.Basics.{if◌then◌else◌}
 use Rattle.meaning.specs.Facts.{Kind, Fact, Board, most_cards, most_notices, is_card}
 use Rattle.meaning.specs.Firing.{Work, unused_rows, of_class, board_after, has_room, settle, full}
 use Rattle.meaning.specs.Words.{made_has_room}

@@ -1,12 +1,11 @@
 -- Laws of `repeat`, the loop that every run is: a run cut short where an attempt is over its allowance, runs that are equal where their attempts
 -- are, and what holds of the board after each firing.
-use Rattle.std.specs.Prelude.{◌≡◌, ◌⊎◌, Bool, true}
+use Rattle.std.specs.Prelude.{◌≡◌, ◌⊎◌, Bool, true, if◌then◌else◌}
 use Rattle.std.proofs.Math.Path.{refl}
 use Rattle.std.proofs.Math.Logic.{inl, inr, ⊎_elim}
 use Prim.Native.Nat.{ℕ, zero, suc, ◌+◌, ◌<◌}
 use Rattle.std.proofs.Common.{add-zero, suc-add, arith}
 use Rattle.std.proofs.Math.Nat.{add-suc}
-use Rattle.meaning.specs.Basics.{if◌then◌else◌}
 use Rattle.meaning.specs.Facts.{Board}
 use Rattle.meaning.specs.Firing.{Firing, quiet, full, fired, Attempt, done, spent, stuck, End, Quiet, Limit, Full, Spent, Stuck, Ran, ended, go_on, repeat}
 use Rattle.agreement.specs.Tools.{cases, impossible}

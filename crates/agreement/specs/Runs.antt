@@ -1,11 +1,10 @@
 -- Demand 3: "For every accepted book, the strip translated from it, run on any accepted board of that book with the same firing limit, any step
 -- allowance and an output buffer that isn't SHORT, ends with the answer and board of demand 2, unless it reports the allowance spent."
-use Rattle.std.specs.Prelude.{◌≡◌, refl, ◌↔◌, ◌⊎◌, ℕ, ◌^◌, ◌≤◌, ◌<◌, Bool, true, false}
+use Rattle.std.specs.Prelude.{◌≡◌, refl, ◌↔◌, ◌⊎◌, ℕ, ◌^◌, ◌≤◌, ◌<◌, Bool, true, false, if◌then◌else◌}
 use Rattle.std.proofs.Common.{sym, ap, ◌∙◌}
 use Rattle.std.proofs.Math.Logic.{⊎_elim}
 use Rattle.std.proofs.Math.Nat.{zero-add}
 use Rattle.std.proofs.lemmas.Bool.{false≢true}
-use Rattle.meaning.specs.Basics.{if◌then◌else◌}
 use Rattle.meaning.specs.Facts.{Board}
 use Rattle.meaning.specs.Rules.{Book}
 use Rattle.meaning.specs.Firing.{fire, Attempt, done, spent, stuck, End, Limit, Spent, Stuck, Ran, no_rule, ended, repeat, run}

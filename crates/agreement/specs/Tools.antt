@@ -1,11 +1,11 @@
 -- The few tools that the proofs are written with: a value's cases with the equation, what cannot be, what holds of each element and of an answer,
 -- the elements behind a place.
-use Rattle.std.specs.Prelude.{◌≡◌, refl, ℕ, zero, suc, Bool, true, false, drop}
+use Rattle.std.specs.Prelude.{◌≡◌, refl, ℕ, zero, suc, Bool, true, false, drop, if◌then◌else◌}
 use Rattle.std.proofs.Common.{ap, arith}
 use Rattle.std.proofs.Math.Option.{Option, none, some}
 use mathlib.Core.List.{List, [], ◌∷◌, ◌++◌, nil≢cons, head-eq_of_cons-eq, tail-eq_of_cons-eq}
 use Rattle.std.proofs.Math.ListN.{get_elem?}
-use Rattle.meaning.specs.Basics.{if◌then◌else◌, ◌>>=◌, All}
+use Rattle.meaning.specs.Basics.{◌>>=◌, All}
 
 -- ---- cases
 

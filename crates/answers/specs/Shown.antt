@@ -1,7 +1,6 @@
 -- What the struct that C receives says, in the terms of crates/files Numbers. Its place and length have 32 bits: a number past those is shown as the largest.
-use Rattle.std.specs.Prelude.{ℕ, ◌≡◌, ltb}
+use Rattle.std.specs.Prelude.{ℕ, ◌≡◌, ltb, if◌then◌else◌}
 use Rattle.std.proofs.Common.{ap}
-use Rattle.meaning.specs.Basics.{if◌then◌else◌}
 use Rattle.files.specs.Numbers as N
 use Rattle.answers.specs.declared.Answer.{Answer}
 

@@ -1,9 +1,9 @@
 -- An accepted book file is the encoding of a good book. The invariant of the judgement: what is read so far is good, and its bytes and those that
 -- are left make up the file. Each record keeps it, and `en` closes the book.
-use Rattle.std.specs.Prelude.{ℕ, zero, suc, ◌≤◌, ◌≡◌, refl, Bool, true, false, ◌&&◌, List, [], ◌∷◌, ◌++◌, length, eqb, leb, ltb}
+use Rattle.std.specs.Prelude.{ℕ, zero, suc, ◌≤◌, ◌≡◌, refl, Bool, true, false, ◌&&◌, List, [], ◌∷◌, ◌++◌, length, eqb, leb, ltb, if◌then◌else◌}
 use Rattle.std.proofs.Common.{arith, sym, ap, ap₂, ◌∙◌, subst, append_assoc, eqb-true, leb-true, ltb-true}
 use Rattle.std.proofs.lemmas.Bool.{eqb-false}
-use Rattle.meaning.specs.Basics.{if◌then◌else◌, All}
+use Rattle.meaning.specs.Basics.{All}
 use Rattle.meaning.specs.Facts.{Kind, most_kinds, most_rules, most_in_rule, most_sweeps, most_numbers}
 use Rattle.meaning.specs.Rules.{Term, equal, unequal, less, less_or_equal, Test, Rule, Book}
 use Rattle.meaning.specs.WellFormed.{GoodKind, any_variable, GoodBook}

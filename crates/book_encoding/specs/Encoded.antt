@@ -2,13 +2,13 @@
 -- forwards from the reading that it follows; what is left is judged from the reading with that record.
 use Prim.Native.Nat.{ℕ, zero, suc, ◌+◌, ◌-◌, ◌<◌, ◌≤◌}
 use native.Mathlib.Omega.{arith}
-use Rattle.std.specs.Prelude.{◌≡◌, ◌↔◌, Bool, true, false, ◌&&◌, ◌||◌, eqb, leb, ltb}
+use Rattle.std.specs.Prelude.{◌≡◌, ◌↔◌, Bool, true, false, ◌&&◌, ◌||◌, eqb, leb, ltb, if◌then◌else◌}
 use Rattle.std.proofs.Math.Path.{refl, ap, subst}
 use Rattle.std.proofs.Common.{sym, ◌∙◌, lt-ltb, le-leb}
 use mathlib.Core.List.{List, [], ◌∷◌, ◌++◌, append_assoc, append-nil}
 use Rattle.std.proofs.Math.ListN.{length, length-append}
 use Rattle.std.proofs.Math.Seq.{append_snoc}
-use Rattle.meaning.specs.Basics.{if◌then◌else◌, All}
+use Rattle.meaning.specs.Basics.{All}
 use Rattle.meaning.specs.Facts.{Kind, most_kinds, most_rules, most_in_rule, most_sweeps, most_in_sweep, variables, most_numbers}
 use Rattle.meaning.specs.Rules.{Term, constant, variable, Atom, Comparison, equal, unequal, less, less_or_equal, Test, Sweep, Rule, Book, occurs_in}
 use Rattle.meaning.specs.WellFormed.{GoodKind, GoodTerm, any_variable, GoodAtom, GoodTest, GoodGroup, HasCard, GoodSweep, GoodRule, GoodBook}

@@ -2,11 +2,11 @@
 -- of what comes after the fields, which are then good and are the bytes that were taken.
 use Prim.Native.Nat.{ℕ, zero, suc, ◌+◌, ◌*◌, ◌<◌, ◌≤◌}
 use Rattle.std.proofs.Common.{arith, ◌∙◌, eqb-true, leb-true, ltb-true}
-use Rattle.std.specs.Prelude.{◌≡◌, Bool, true, false, length, eqb, leb, ltb}
+use Rattle.std.specs.Prelude.{◌≡◌, Bool, true, false, length, eqb, leb, ltb, if◌then◌else◌}
 use Rattle.std.proofs.Math.Path.{refl, ap}
 use mathlib.Core.List.{List, [], ◌∷◌, ◌++◌}
 use Rattle.std.proofs.lemmas.Bool.{eqb-false}
-use Rattle.meaning.specs.Basics.{if◌then◌else◌, All}
+use Rattle.meaning.specs.Basics.{All}
 use Rattle.meaning.specs.Facts.{Kind, variables, arity_of}
 use Rattle.meaning.specs.Rules.{Term, constant, variable, Atom}
 use Rattle.meaning.specs.WellFormed.{GoodTerm, GoodAtom}

@@ -3,13 +3,13 @@
 use Prim.Native.Nat.{ℕ, zero, suc, ◌+◌, ◌*◌, ◌/◌, ◌%◌, ◌≤◌}
 use Rattle.std.proofs.Common.{add-zero, sym, ◌∙◌, subst, get_or-drop, drop-drop}
 use native.Mathlib.Omega.{arith}
-use Rattle.std.specs.Prelude.{◌≡◌, Bool, get_or, eqb}
+use Rattle.std.specs.Prelude.{◌≡◌, Bool, get_or, eqb, if◌then◌else◌}
 use Rattle.std.proofs.Math.Path.{refl, ap, ap₂}
 use Rattle.std.proofs.Math.Bool.{true, false}
 use mathlib.Core.List.{List, [], ◌∷◌, ◌++◌, append_assoc}
 use Rattle.std.proofs.Math.ListN.{length, drop}
 use borrow.Author.Tests.{eq-eqb}
-use Rattle.meaning.specs.Basics.{if◌then◌else◌, All}
+use Rattle.meaning.specs.Basics.{All}
 use Rattle.meaning.specs.Facts.{Kind, most_kinds, most_rules, most_in_rule, most_sweeps, most_in_sweep, arity_of}
 use Rattle.meaning.specs.Rules.{Term, constant, variable, Atom, Comparison, equal, unequal, less, less_or_equal, Test, Sweep, Rule, Book, occurs_in}
 use Rattle.meaning.specs.WellFormed.{GoodKind, any_variable, GoodAtom, GoodTest, GoodGroup, GoodSweep, GoodRule, GoodBook}

@@ -1,11 +1,11 @@
 -- Strip files: a file is accepted exactly if it is the encoding of a good strip; that strip is the only one; and it is what is read in place.
 -- (Proved word by word, `StripWords`; here the file's length joins in.)
-use Rattle.std.specs.Prelude.{ℕ, ◌*◌, ◌/◌, ◌%◌, ◌≤◌, ◌<◌, ◌≡◌, refl, ◌↔◌, Bool, true, false, not, ◌||◌, List, [], ◌∷◌, ◌++◌, map, length, ltb}
+use Rattle.std.specs.Prelude.{ℕ, ◌*◌, ◌/◌, ◌%◌, ◌≤◌, ◌<◌, ◌≡◌, refl, ◌↔◌, Bool, true, false, not, ◌||◌, List, [], ◌∷◌, ◌++◌, map, length, ltb, if◌then◌else◌}
 use Rattle.std.proofs.Common.{zero-add, arith, sym, ap, ◌∙◌, subst, length-append, ltb-false, eqb-true, le-ltb, ne_eqb}
 use Rattle.std.proofs.Math.Option.{some}
 use Rattle.std.proofs.Math.ListN.{get_elem?}
 use Rattle.std.proofs.lemmas.Bool.{eqb-false}
-use Rattle.meaning.specs.Basics.{if◌then◌else◌, All}
+use Rattle.meaning.specs.Basics.{All}
 use Rattle.meaning.specs.Facts.{Kind, most_kinds, number_limit, longest_strip}
 use Rattle.meaning.specs.Words.{Word}
 use Rattle.meaning.specs.WellFormed.{GoodKind, GoodWord, EndsWell, GoodStrip}
@@ -52,16 +52,20 @@ unfolding words_at
 strip_in_place file words e =
     words_in_place file (length file / 8) (length file / 8) 0 nothing words (measured file words e).judged
 
--- An accepted file has eight bytes for each word.
-pub strip_size : (file : List ℕ) (words : List Word) → judge_strip file ≡ accepted words → length file ≡ 8 * length words
-strip_size file words e =
-    let m = measured file words e in
+eight_bytes_each : (file : List ℕ) (words : List Word) → Measured file words → length file ≡ 8 * length words
+eight_bytes_each file words m =
     let n = words_count file (length file / 8) (length file / 8) 0 nothing words m.judged in
     omega (arith, m.eights)
 
+-- An accepted file has eight bytes for each word.
+pub strip_size : (file : List ℕ) (words : List Word) → judge_strip file ≡ accepted words → length file ≡ 8 * length words
+strip_size file words e = eight_bytes_each file words (measured file words e)
+
 -- It has a word at least.
 pub strip_not_empty : (file : List ℕ) (words : List Word) → judge_strip file ≡ accepted words → 0 < length words
-strip_not_empty file words e = omega (arith, (measured file words e).not_empty, strip_size file words e)
+strip_not_empty file words e =
+    let m = measured file words e in
+    omega (arith, m.not_empty, eight_bytes_each file words m)
 
 -- Word i is read at byte 8i.
 pub strip_word_in_place : (file : List ℕ) (words : List Word) (i : ℕ) → judge_strip file ≡ accepted words → i < length words
@@ -69,7 +73,7 @@ pub strip_word_in_place : (file : List ℕ) (words : List Word) (i : ℕ) → ju
 unfolding words_at
 strip_word_in_place file words i e h =
     ap (λ (l : List Word). get_elem? l i) (sym (strip_in_place file words e))
-    ∙ many-at (word_at file) (length file / 8) 0 i (omega (arith, strip_size file words e))
+    ∙ many-at (word_at file) (length file / 8) 0 i (omega (arith, eight_bytes_each file words (measured file words e)))
     ∙ ap (λ (q : ℕ). some (word_at file q)) (zero-add (8 * i))
 
 -- ---- accepted
@@ -96,7 +100,7 @@ pub strip_accepted : (file : List ℕ) (words : List Word) → Bytes file → ju
     → GoodStrip words × (file ≡ encode_strip words)
 strip_accepted file words b e =
     let m = measured file words e in
-    let n = strip_size file words e in
+    let n = eight_bytes_each file words m in
     let size : length file / 8 ≡ length words = omega arith in
     let (h, d, l) = words-held file (length file / 8) b (length file / 8) 0 nothing words (omega (arith, m.eights)) m.judged in
     (held-good (length file / 8) words h size (all_end words (strip_not_empty file words e) l) (omega (arith, m.most)), d)

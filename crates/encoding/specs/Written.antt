@@ -2,7 +2,7 @@
 -- that fit the kinds, cards before notices, and it then holds what they say.
 use Prim.Native.Nat.{ℕ, zero, suc, ◌+◌, ◌*◌, ◌-◌, ◌≤◌, ◌<◌}
 use native.Mathlib.Omega.{arith}
-use Rattle.std.specs.Prelude.{◌≡◌, refl, ◌⊎◌, Bool, not, ◌&&◌, get_or, drop, eqb, ltb}
+use Rattle.std.specs.Prelude.{◌≡◌, refl, ◌⊎◌, Bool, not, ◌&&◌, get_or, drop, eqb, ltb, if◌then◌else◌}
 use Rattle.std.proofs.Common.{sym, ap₂, ◌∙◌, inl, inr, length-append}
 use Rattle.std.proofs.Math.Path.{ap}
 use Rattle.std.proofs.Math.Bool.{true, false}
@@ -10,7 +10,7 @@ use Rattle.std.proofs.lemmas.Bool.{false≢true}
 use mathlib.Core.List.{List, [], ◌∷◌, ◌++◌, map, append_assoc, append-nil}
 use Rattle.std.proofs.Math.ListN.{length}
 use borrow.Author.Tests.{ltb-true, lt-ltb, eqb-true, not-true}
-use Rattle.meaning.specs.Basics.{if◌then◌else◌, All}
+use Rattle.meaning.specs.Basics.{All}
 use Rattle.meaning.specs.Facts.{Kind, Fact, Board, most_cards, most_notices, is_card, arity_of}
 use Rattle.files.specs.Numbers.{Refusal, PLACE, MANY, FIELD}
 use Rattle.files.specs.Marks.{CA, NO, EN, is_mark}

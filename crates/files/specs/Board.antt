@@ -1,6 +1,5 @@
 -- A board file (document 01, 'The files'): "`ca` kind, numbers; all `ca` before `no` (kind, numbers); then `en`."
-use Rattle.std.specs.Prelude.{ℕ, zero, suc, ◌-◌, Bool, true, false, not, ◌&&◌, List, [], ◌∷◌, ◌++◌, length, ltb}
-use Rattle.meaning.specs.Basics.{if◌then◌else◌}
+use Rattle.std.specs.Prelude.{ℕ, zero, suc, ◌-◌, Bool, true, false, not, ◌&&◌, List, [], ◌∷◌, ◌++◌, length, ltb, if◌then◌else◌}
 use Rattle.meaning.specs.Facts.{Kind, Fact, Board, most_cards, most_notices, is_card, arity_of}
 use Rattle.files.specs.Numbers.{MARK, PLACE, MANY, FIELD}
 use Rattle.files.specs.Marks.{CA, NO, EN, is_mark}

@@ -1,7 +1,6 @@
 -- A book file (document 01, 'The files'): "`kd` class, arity; `ru` opens a rule; `ba` kind, one term for each argument; `te` test number, two
 -- terms; `he` kind, terms; `sw` opens a sweep; `en` ends."
-use Rattle.std.specs.Prelude.{ℕ, zero, suc, ◌-◌, Bool, true, false, ◌&&◌, ◌||◌, List, [], ◌∷◌, ◌++◌, length, eqb, leb, ltb}
-use Rattle.meaning.specs.Basics.{if◌then◌else◌}
+use Rattle.std.specs.Prelude.{ℕ, zero, suc, ◌-◌, Bool, true, false, ◌&&◌, ◌||◌, List, [], ◌∷◌, ◌++◌, length, eqb, leb, ltb, if◌then◌else◌}
 use Rattle.meaning.specs.Facts.{Kind, most_kinds, most_rules, most_in_rule, most_sweeps, most_in_sweep, variables, most_numbers, is_card, arity_of}
 use Rattle.meaning.specs.Rules.{Term, constant, variable, Atom, Sweep, Rule, Book, occurs_in}
 use Rattle.meaning.specs.WellFormed.{any_variable}

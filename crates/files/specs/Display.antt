@@ -1,6 +1,5 @@
 -- What the display program prints (document 01, 'Known boards', last paragraph), byte for byte, for the files `book` and `board`.
-use Rattle.std.specs.Prelude.{ℕ, zero, suc, ◌+◌, ◌/◌, ◌%◌, List, [], ◌∷◌, ◌++◌, ltb}
-use Rattle.meaning.specs.Basics.{if◌then◌else◌}
+use Rattle.std.specs.Prelude.{ℕ, zero, suc, ◌+◌, ◌/◌, ◌%◌, List, [], ◌∷◌, ◌++◌, ltb, if◌then◌else◌}
 use Rattle.meaning.specs.Facts.{Fact}
 use Rattle.meaning.specs.Firing.{Ran, run}
 use Rattle.files.specs.Numbers.{Refusal, refusal_number, end_number}

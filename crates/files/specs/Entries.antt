@@ -1,8 +1,7 @@
 -- The six entries, on bytes: for every input the answer, and every byte of the output afterwards (document 01, 'Numbers a terminal may show':
 -- "Book or strip is judged first, then board, then SHORT.").
-use Rattle.std.specs.Prelude.{ℕ, ◌≡◌, Bool, true, false, List, [], ◌++◌, length, drop, ltb}
+use Rattle.std.specs.Prelude.{ℕ, ◌≡◌, Bool, true, false, List, [], ◌++◌, length, drop, ltb, if◌then◌else◌}
 use Rattle.std.proofs.Math.Option.{Option, none, some}
-use Rattle.meaning.specs.Basics.{if◌then◌else◌}
 use Rattle.meaning.specs.Facts.{longest_board, longest_strip}
 use Rattle.meaning.specs.Firing.{Ran, run}
 use Rattle.meaning.specs.Words.{strip_kinds, run_strip}

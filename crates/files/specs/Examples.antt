@@ -1,6 +1,6 @@
 -- Worked examples of the files: a book with everything in it, each refusal with its place, the order of judging, and what the entries answer.
 -- (The known boards K1 to K10 stand in crates/promises.)
-use Rattle.std.specs.Prelude.{◌≡◌, refl, ℕ, true, false, List, [], ◌∷◌, ◌++◌, length, replicate}
+use Rattle.std.specs.Prelude.{◌≡◌, refl, ℕ, true, false, List, [], ◌∷◌, ◌++◌, replicate}
 use Rattle.meaning.specs.Basics.{first, fold}
 use Rattle.meaning.specs.Facts.{Board}
 use Rattle.meaning.specs.Rules.{constant, variable, equal, less, less_or_equal, Book}

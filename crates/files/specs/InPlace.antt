@@ -1,6 +1,5 @@
 -- An accepted file is read where it stands. These readers are total: past the end they read 0, and they judge nothing.
-use Rattle.std.specs.Prelude.{ℕ, zero, suc, ◌+◌, ◌*◌, List, [], ◌∷◌, get_or, eqb}
-use Rattle.meaning.specs.Basics.{if◌then◌else◌}
+use Rattle.std.specs.Prelude.{ℕ, zero, suc, ◌+◌, ◌*◌, List, [], ◌∷◌, get_or, eqb, if◌then◌else◌}
 use Rattle.meaning.specs.Facts.{Kind, Fact, Board, most_kinds, most_rules, most_in_rule, most_sweeps, most_in_sweep, most_cards, most_notices, arity_of}
 use Rattle.meaning.specs.Rules.{Term, constant, variable, Atom, Comparison, equal, unequal, less, less_or_equal, Test, Sweep, Rule, Book}
 use Rattle.files.specs.Marks.{KD, RU, BA, TE, HE, SW, CA, NO, is_mark}

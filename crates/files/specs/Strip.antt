@@ -1,7 +1,6 @@
 -- A strip file (document 01, 'The strip', first lines and last paragraph): words of 8 bytes, judged word by word; "STRIP refuses, at the lowest
 -- such word".
-use Rattle.std.specs.Prelude.{ℕ, zero, suc, ◌+◌, ◌*◌, ◌/◌, ◌%◌, Bool, true, false, not, ◌&&◌, ◌||◌, List, [], ◌∷◌, length, eqb, leb, ltb}
-use Rattle.meaning.specs.Basics.{if◌then◌else◌}
+use Rattle.std.specs.Prelude.{ℕ, zero, suc, ◌+◌, ◌*◌, ◌/◌, ◌%◌, Bool, true, false, not, ◌&&◌, ◌||◌, List, [], ◌∷◌, length, eqb, leb, ltb, if◌then◌else◌}
 use Rattle.meaning.specs.Facts.{most_kinds, most_rules, variables, most_numbers, longest_strip}
 use Rattle.meaning.specs.Words.{Word, KIND, OPEN, SEEK, BIND, SAME, LIT, TEST, KEEP, PUT, ARG, JUMP, FIRE, QUIET, cursor_count}
 use Rattle.files.specs.Numbers.{STRIP}

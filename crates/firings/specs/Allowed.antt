@@ -1,11 +1,11 @@
 -- A firing of a rule is derivable in the judgments of Meld 2.0 (source document 001): match for the body, derive for heads and sweeps, apply for the
 -- rule. What is still to be derived is carried along (`Leads`), so that a sweep's proof goes choice by choice.
-use Rattle.std.specs.Prelude.{◌≡◌, refl, ℕ, Bool, true, false, not, List, [], ◌∷◌, ◌++◌, map}
+use Rattle.std.specs.Prelude.{◌≡◌, refl, ℕ, Bool, true, false, not, List, [], ◌∷◌, ◌++◌, map, if◌then◌else◌}
 use Rattle.std.proofs.Common.{sym, ◌∙◌, subst, zero-add, arith, append-nil, append_assoc}
 use Rattle.std.proofs.Math.Option.{some}
 use mathlib.Core.List.Memᴰ
 use Rattle.std.proofs.lemmas.Bool.{not-true}
-use Rattle.meaning.specs.Basics.{if◌then◌else◌, mem, In}
+use Rattle.meaning.specs.Basics.{mem, In}
 use Rattle.meaning.specs.Facts.{Kind, Fact, Board, is_card}
 use Rattle.meaning.specs.Rules.{Term, constant, variable, Atom, Test, Sweep, Rule, Values, value_of}
 use Rattle.meaning.specs.Fit.{Choice, Marks, Bindings, values_of, IsChoice, AtomsEqual, TestsHold, Known, nothing_known, take_row}

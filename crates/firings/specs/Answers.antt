@@ -1,14 +1,14 @@
 -- What `fit` answers, from a term to an atom to a choice: an answer says exactly which values are left. One notion, `Answers`, and one law for an answer
 -- that follows on another carry the whole proof.
-use Rattle.std.specs.Prelude.{◌≡◌, ◌↔◌, ℕ, Bool, true, false, ◌||◌, eqb}
+use Rattle.std.specs.Prelude.{◌≡◌, ◌↔◌, ℕ, Bool, true, false, ◌||◌, eqb, if◌then◌else◌}
 use Rattle.std.proofs.Math.Path.{refl, ap₂}
 use Rattle.std.proofs.Common.{sym, ap, ◌∙◌, true≢false, eqb-true, eq-eqb}
-use Rattle.std.proofs.Math.Logic.{Iff·rfl, Iff·symm, Iff·trans, Iff·and}
+use mathlib.Core.Logic.Iff
 use Rattle.std.proofs.lemmas.Bool.{false≢true, eqb-false}
 use Rattle.std.proofs.Math.Bool.{or_assoc, or-false, or-true, ◌&&◌}
 use Rattle.std.proofs.Math.Option.{Option, none, some, some-injective, none-ne-some}
 use mathlib.Core.List.{List, [], ◌∷◌, map, nil≢cons, cons≢nil, cons-eq-cons}
-use Rattle.meaning.specs.Basics.{if◌then◌else◌, ◌>>=◌, All}
+use Rattle.meaning.specs.Basics.{◌>>=◌, All}
 use Rattle.meaning.specs.Facts.{Kind, Fact, is_card}
 use Rattle.meaning.specs.Rules.{Term, constant, variable, Atom, Test, compare, Values, value_of, holds, occurs_in_terms, occurs_in}
 use Rattle.meaning.specs.Fit.{Row, Choice, Marks, Bindings, Known, lookup, or_zero, values_of, TestsHold, Under}
@@ -79,7 +79,7 @@ module _ {A : Type 0} {view : A → Bindings} {Q : A → Type 0} {P : Values →
       → Answers view Q P occurs bindings o → Answers view Q' P' occurs' bindings o
   answers_map f p e (nothing n) = nothing (λ values u q. n values u ((p values).1 q))
   answers_map f p e (just {a = a} q w) = just (f a q) (record {
-    exactly = λ values. Iff·trans (w.exactly values) (Iff·and Iff·rfl (p values));
+    exactly = λ values. Iff.trans (w.exactly values) (Iff.and Iff.rfl (p values));
     binds = λ x. w.binds x ∙ ap (λ (t : Bool). is_bound bindings x || t) (e x);
   })
 
@@ -153,7 +153,7 @@ agree_all_answers [] [] bindings = agrees_same bindings (λ values. refl)
 agree_all_answers [] (n ∷ numbers) bindings = nothing λ values u p. nil≢cons p
 agree_all_answers (t ∷ terms) [] bindings = nothing λ values u p. cons≢nil p
 agree_all_answers (t ∷ terms) (n ∷ numbers) bindings =
-    answers_map (λ b q. q) (λ values. Iff·symm cons-eq-cons) (λ x. occurs_cons x t terms)
+    answers_map (λ b q. q) (λ values. Iff.symm cons-eq-cons) (λ x. occurs_cons x t terms)
     (answers_then (λ b. agree_all terms numbers b) (agree_answers t n bindings) (λ b q w. agree_all_answers terms numbers b))
 
 -- ---- an atom on a row
@@ -234,13 +234,13 @@ pub fit_answers : (kinds : List Kind) (tests : List Test) (atoms : List Atom) (r
     (FitsBy kinds tests atoms rows known.gone) (λ x. occurs_in x atoms) known.bindings (fit kinds atoms tests rows known)
 unfolding fit
 fit_answers kinds tests [] [] known good =
-    answers_map (λ k q. q ∙ sym (gone_nil kinds known.gone)) (λ values. Iff·rfl) (λ x. refl)
+    answers_map (λ k q. q ∙ sym (gone_nil kinds known.gone)) (λ values. Iff.rfl) (λ x. refl)
     (tests_answers tests known (good-tests _ _ (λ x h. sym (or-false (is_bound known.bindings x)) ∙ h) tests good))
 fit_answers kinds tests [] (r ∷ rows) known good = nothing λ values u h. h
 fit_answers kinds tests (a ∷ atoms) [] known good = nothing λ values u h. h
 fit_answers kinds tests (a ∷ atoms) (r ∷ rows) known good =
-    answers_map (λ k q. q ∙ gone_cons kinds a atoms r rows known.gone) (λ values. Iff·rfl) (λ x. refl)
+    answers_map (λ k q. q ∙ gone_cons kinds a atoms r rows known.gone) (λ values. Iff.rfl) (λ x. refl)
     (answers_then (λ k. fit kinds atoms tests rows k) (fit_row_answers kinds a r known) λ k q w.
-    answers_map (λ k' p. p ∙ ap (gone_after kinds atoms rows) q) (λ values. rw q Iff·rfl) (λ x. refl)
+    answers_map (λ k' p. p ∙ ap (gone_after kinds atoms rows) q) (λ values. rw q Iff.rfl) (λ x. refl)
     (fit_answers kinds tests atoms rows k (good-tests _ _ (λ x h.
     rw (w.binds x, or_assoc (is_bound known.bindings x) (occurs_in_terms x a.terms) (occurs_in x atoms)) h) tests good)))

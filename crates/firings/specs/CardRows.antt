@@ -1,12 +1,12 @@
 -- Laws of the card rows of a choice: which rows are fresh, which are marked, which are gone after a choice, and whether it has any. By induction on
 -- the rows, each taken or not by its atom's class.
-use Rattle.std.specs.Prelude.{◌≡◌, refl, ◌↔◌, ℕ, Bool, true, false, ◌||◌, List, [], ◌∷◌, ◌++◌, eqb}
+use Rattle.std.specs.Prelude.{◌≡◌, refl, ◌↔◌, ℕ, Bool, true, false, ◌||◌, List, [], ◌∷◌, ◌++◌, eqb, if◌then◌else◌}
 use Rattle.std.proofs.Common.{sym, ap, ◌∙◌, inl, inr, ⊎_elim, true≢false, eq-eqb, ne_eqb}
 use Rattle.std.proofs.Math.Path.{fun_ext}
 use Rattle.std.proofs.Math.Bool.{or_assoc, or-false}
 use mathlib.Core.List.Memᴰ
 use Rattle.std.proofs.lemmas.Bool.{not-true}
-use Rattle.meaning.specs.Basics.{if◌then◌else◌, mem, In}
+use Rattle.meaning.specs.Basics.{mem, In}
 use Rattle.meaning.specs.Facts.{Kind, is_card}
 use Rattle.meaning.specs.Rules.{Atom, Values}
 use Rattle.meaning.specs.Fit.{Row, Choice, Marks, mark, free, take_row, card_rows, Apart, Unused, AtomsEqual}

@@ -21,7 +21,7 @@ use Rattle.firings.specs.Fitting.{FitGives, fit_gives, none_exactly_if_not_fits}
 
 numbered-at : (n : ℕ) (facts : List Fact) {r : Row} → In r (numbered n facts) → (i : ℕ) × (r.at ≡ n + i) × (get_elem? facts i ≡ some r.fact)
 unfolding numbered
-numbered-at n [] m = absurd (Memᴰ.not_nil m)
+numbered-at n [] m = absurd (Memᴰ.not-nil m)
 numbered-at n (f ∷ facts) m =
     ⊎_elim (λ e. (0, ap (λ (z : Row). z.at) e ∙ sym (add-zero n), ap (λ (z : Row). some z.fact) (sym e)))
     (λ k. let w = numbered-at (suc n) facts k in (suc w.0, omega (arith, w.1), w.2)) (Memᴰ.cases_cons m)
@@ -36,14 +36,14 @@ at-numbered n (f ∷ facts) r (suc i) p e = Memᴰ.tail (at-numbered (suc n) fac
 
 spread-from : (rows : List Row) (cs : List Choice) {c : Choice} → In c (spread rows cs) → (r : Row) × (d : Choice) × In r rows × In d cs × (c ≡ r ∷ d)
 unfolding spread
-spread-from [] cs m = absurd (Memᴰ.not_nil m)
+spread-from [] cs m = absurd (Memᴰ.not-nil m)
 spread-from (r ∷ rows) cs m =
     ⊎_elim (λ k. let w = Memᴰ.of_map (λ d. r ∷ d) cs k in (r, w.0, Memᴰ.head refl, w.1, sym w.2))
     (λ k. let w = spread-from rows cs k in (w.0, w.1, Memᴰ.tail w.2, w.3, w.4)) (Memᴰ.append_cases (map (λ d. r ∷ d) cs) m)
 
 in_spread : (cs : List Choice) {r : Row} {c : Choice} (rows : List Row) → In r rows → In c cs → In (r ∷ c) (spread rows cs)
 unfolding spread
-in_spread cs [] m k = absurd (Memᴰ.not_nil m)
+in_spread cs [] m k = absurd (Memᴰ.not-nil m)
 in_spread cs {c = c} (x ∷ rows) m k =
     ⊎_elim (λ e. Memᴰ.cast (ap (λ (z : Row). z ∷ c) e) (Memᴰ.append_left (spread rows cs) (Memᴰ.map (λ d. x ∷ d) k)))
     (λ l. Memᴰ.append_right (map (λ d. x ∷ d) cs) (in_spread cs rows l k)) (Memᴰ.cases_cons m)
@@ -107,7 +107,7 @@ ascending_spread cs p n (f ∷ facts) =
 -- "Choices are ordered by the first atom's row, then the second's, and so on."
 pub choices_ascending : (kinds : List Kind) (board : Board) (atoms : List Atom) → Ascending (choices kinds board atoms)
 unfolding choices
-choices_ascending kinds board [] = ((λ d m. absurd (Memᴰ.not_nil m)), tt)
+choices_ascending kinds board [] = ((λ d m. absurd (Memᴰ.not-nil m)), tt)
 choices_ascending kinds board (a ∷ atoms) =
     ascending_spread (choices kinds board atoms) (choices_ascending kinds board atoms) 0 (rows_of board (is_card kinds a.kind))
 
@@ -128,7 +128,7 @@ choice_stands_once kinds board atoms = ascending_once (choices kinds board atoms
 module _ {B : Type 0} (f : Choice → Option B) where
   first-none : (cs : List Choice) → (first f cs ≡ none) ↔ ((c : Choice) → In c cs → f c ≡ none)
   unfolding first
-  first-none [] = ((λ h c m. absurd (Memᴰ.not_nil m)), λ h. refl)
+  first-none [] = ((λ h c m. absurd (Memᴰ.not-nil m)), λ h. refl)
   first-none (d ∷ cs) = go (f d) refl (first-none cs)
     where
       go : (o : Option B) → f d ≡ o → (first f cs ≡ none) ↔ ((c : Choice) → In c cs → f c ≡ none)

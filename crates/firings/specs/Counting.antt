@@ -1,11 +1,10 @@
 -- Multi-sets, by counting, "with equal cards counted apart"; and the rows that marks leave and take. By induction on the rows, each step one `omega`
 -- over the counts of one fact.
-use Rattle.std.specs.Prelude.{◌≡◌, refl, ℕ, zero, suc, ◌+◌, ◌<◌, true, false, List, [], ◌∷◌, ◌++◌, eqb}
+use Rattle.std.specs.Prelude.{◌≡◌, refl, ℕ, zero, suc, ◌+◌, ◌<◌, true, false, List, [], ◌∷◌, ◌++◌, eqb, if◌then◌else◌}
 use Rattle.std.proofs.Common.{ap, ap₂, add-zero, add-suc, suc-add, arith, eqb-true, eq-eqb, ne_eqb}
 use Rattle.std.proofs.lemmas.Bool.{false≢true}
 use Rattle.std.proofs.Math.Option.{some, some-injective, none-ne-some}
 use Rattle.std.proofs.Math.ListN.{get_elem?}
-use Rattle.meaning.specs.Basics.{if◌then◌else◌}
 use Rattle.meaning.specs.Facts.{Fact}
 use Rattle.meaning.specs.Fit.{Marks, no_marks, mark}
 use Rattle.meaning.specs.Firing.{unused_rows}

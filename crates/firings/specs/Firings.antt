@@ -57,15 +57,16 @@ module _ (kinds : List Kind) (board : Board) where
       place = suc w.0.place;
       rule = w.0.rule;
       listed = w.0.listed;
-      none_earlier = λ j. elim j [
-        | zero ↦ λ earlier l e. subst (NoneFits kinds board) (some-injective rule earlier e) h
-        | suc i ↦ λ earlier l e. w.0.none_earlier i earlier (omega arith) e
-      ];
+      none_earlier = before;
       known = w.0.known;
       first = w.0.first;
     },
     w.1 ∙ ap (λ (m : ℕ). settle kinds board m (work_by w.0)) (omega arith),
   )
+    where
+      before : (j : ℕ) (earlier : Rule) → j < suc w.0.place → get_elem? (rule ∷ rules) j ≡ some earlier → NoneFits kinds board earlier
+      before zero earlier l e = subst (NoneFits kinds board) (some-injective rule earlier e) h
+      before (suc i) earlier l e = w.0.none_earlier i earlier (omega arith) e
 
   pub look : (n : ℕ) (rules : List Rule) → All (GoodRule kinds) rules → Look n rules (fire_from kinds board n rules)
   unfolding fire_from

@@ -16,7 +16,7 @@ use Rattle.firings.specs.Answers.{is_bound, under_own, under_bound, answered, an
 
 fits_split : (kinds : List Kind) (tests : List Test) (values : Values) (atoms : List Atom) (rows : Choice) (gone : Marks)
     → FitsBy kinds tests atoms rows gone values ↔ (Fresh gone (card_rows kinds atoms rows) × AtomsEqual values atoms rows × TestsHold values tests)
-fits_split kinds tests values [] [] gone = ((λ h. ((tt, λ n m. absurd (Memᴰ.not_nil m)), tt, h)), λ h. h.2)
+fits_split kinds tests values [] [] gone = ((λ h. ((tt, λ n m. absurd (Memᴰ.not-nil m)), tt, h)), λ h. h.2)
 fits_split kinds tests values [] (r ∷ rows) gone = ((λ h. absurd h), λ h. h.1)
 fits_split kinds tests values (a ∷ atoms) [] gone = ((λ h. absurd h), λ h. h.1)
 fits_split kinds tests values (a ∷ atoms) (r ∷ rows) gone =

@@ -1,11 +1,11 @@
 -- The judgments do not allow too much. A step that Meld allows is one of a rule with a fitting choice of rows, so where a firing is quiet Meld allows
 -- no step at all; and what a step uses up was there. By inversion of the derivations.
-use Rattle.std.specs.Prelude.{◌≡◌, refl, ◌↔◌, ℕ, suc, ◌+◌, ◌≤◌, true, false, List, [], ◌∷◌, map}
+use Rattle.std.specs.Prelude.{◌≡◌, refl, ◌↔◌, ℕ, suc, ◌+◌, ◌≤◌, true, false, List, [], ◌∷◌, map, if◌then◌else◌}
 use Rattle.std.proofs.Common.{sym, ap, ap₂, ◌∙◌, subst, ⊎_elim, add-zero, add-suc, suc-add, zero-add, arith}
 use Rattle.std.proofs.Math.Option.{some, none-ne-some}
 use mathlib.Core.List.Memᴰ
 use Rattle.std.proofs.Math.ListN.{get_elem?}
-use Rattle.meaning.specs.Basics.{if◌then◌else◌, change, In, All}
+use Rattle.meaning.specs.Basics.{change, In, All}
 use Rattle.meaning.specs.Facts.{Kind, Fact, Board, is_card}
 use Rattle.meaning.specs.Rules.{Term, Atom, Comparison, compare, Test, Rule, Book, Values, value_of, holds}
 use Rattle.meaning.specs.Fit.{Choice, Marks, no_marks, mark, IsChoice, TestsHold, nothing_known}
@@ -86,7 +86,8 @@ split_inverse (match_split {Δ₁ = Δ₁} {Δ₂ = Δ₂} {Ξ₁ = Ξ₁} {Ξ�
 
 tests_inverse : {Γ Δ Ξ : List Fact} (values : Values) (tests : List Test) → Match Γ Δ (tensor (test_form values) tests 𝟏) Ξ → TestsHold values tests
 tests_inverse values [] d = tt
-tests_inverse values (t ∷ tests) d = let w = split_inverse d in (test_inverse values t w.4, tests_inverse values tests w.5)
+tests_inverse {Γ = Γ} {Δ = Δ} {Ξ = Ξ} values (t ∷ tests) d =
+    let w = split_inverse d in (test_inverse values t w.4, tests_inverse {Γ = Γ} {Δ = w.1} {Ξ = w.3} values tests w.5)
 
 nil_inverse : {ns : List ℕ} → Equal ns [] → ns ≡ []
 nil_inverse equal_none = refl

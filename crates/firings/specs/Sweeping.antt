@@ -60,7 +60,7 @@ module _ (kinds : List Kind) (sweep : Sweep) (bindings : Bindings) where
 
   -- no card row is used twice, nor one that was used before
   pub rows_fresh : {work last : Work} {cs : List Choice} {ts : List Taken} → Sweeping work cs ts last → Fresh work.used (all_rows ts)
-  rows_fresh over = (tt, λ n m. absurd (Memᴰ.not_nil m))
+  rows_fresh over = (tt, λ n m. absurd (Memᴰ.not-nil m))
   rows_fresh (passes x l) = rows_fresh l
   rows_fresh {work} (takes {c = c} {k = k} {ts = ts} g l) =
       fresh_append work.used k.gone (rows c) (all_rows ts) (g.fits.apart, g.fits.unused) (λ n. ap (λ (m : Marks). m n) g.gone) (rows_fresh l)
@@ -91,7 +91,7 @@ module _ (kinds : List Kind) (sweep : Sweep) (bindings : Bindings) where
   -- with a card atom in the body, none still fits at last: one passed over did not fit even earlier, and of one taken a card row is used
   pub none_left : HasCard kinds sweep.body → {work last : Work} {cs : List Choice} {ts : List Taken} → Sweeping work cs ts last
       → {c : Choice} → In c cs → FitsNow last.used c → ⊥
-  none_left card over m f = Memᴰ.not_nil m
+  none_left card over m f = Memᴰ.not-nil m
   none_left card {work} (passes {ts = ts} x l) {c} m f =
       ⊎_elim (λ q. x (subst (FitsNow work.used) q early)) (λ i. none_left card l i f) (Memᴰ.cases_cons m)
     where
@@ -109,7 +109,7 @@ module _ (kinds : List Kind) (sweep : Sweep) (bindings : Bindings) where
   -- without one, exactly those that fit are taken
   pub notices-taken : AllNotices kinds sweep.body → {work last : Work} {cs : List Choice} {ts : List Taken} → Sweeping work cs ts last
       → (c : Choice) → (In c cs × FitsNow work.used c) ↔ In c (choices_of ts)
-  notices-taken all over c = ((λ h. h.0), λ m. absurd (Memᴰ.not_nil m))
+  notices-taken all over c = ((λ h. h.0), λ m. absurd (Memᴰ.not-nil m))
   notices-taken all {work} (passes x l) c =
       let w = notices-taken all l c in (
         (λ h. ⊎_elim (λ q. absurd (x (subst (FitsNow work.used) q h.1))) (λ m. w.0 (m, h.1)) (Memᴰ.cases_cons h.0)),
@@ -117,7 +117,7 @@ module _ (kinds : List Kind) (sweep : Sweep) (bindings : Bindings) where
       )
   notices-taken all {work} (takes g l) c =
       let w = notices-taken all l c in
-      let any : (used : Marks) → Unused used (rows c) = rw (no_card_row kinds sweep.body c all) (λ used n m. absurd (Memᴰ.not_nil m)) in (
+      let any : (used : Marks) → Unused used (rows c) = rw (no_card_row kinds sweep.body c all) (λ used n m. absurd (Memᴰ.not-nil m)) in (
         (λ h. ⊎_elim (λ q. Memᴰ.head q) (λ m. Memᴰ.tail (w.0 (m, fits_if_unused (any _) h.1))) (Memᴰ.cases_cons h.0)),
         λ m. ⊎_elim (λ q. (Memᴰ.head q, subst (FitsNow work.used) (sym q) g.fits))
             (λ i. let z = w.1 i in (Memᴰ.tail z.0, fits_if_unused (any _) z.1)) (Memᴰ.cases_cons m),

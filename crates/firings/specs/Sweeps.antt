@@ -63,7 +63,7 @@ module _ {kinds : List Kind} {board : Board} {bindings : Bindings} where
   -- no card row is used twice in all sweeps, nor one used before; used afterwards are exactly these
   pub sweeps_fresh : {work last : Work} {sweeps : List Sweep} (s : SweepsDone kinds board bindings work sweeps last)
       → Fresh work.used (rows_of_sweeps s) × Marked work.used (rows_of_sweeps s) last.used
-  sweeps_fresh {work} no_sweep = ((tt, λ n m. absurd (Memᴰ.not_nil m)), λ n. sym (or-false (work.used n)))
+  sweeps_fresh {work} no_sweep = ((tt, λ n m. absurd (Memᴰ.not-nil m)), λ n. sym (or-false (work.used n)))
   sweeps_fresh {work} {last} (sweep_then {next = next} {sweep = sweep} d more) =
       let w = sweeps_fresh more in
       let rows = rows_used kinds sweep.body d.taken_ones in (

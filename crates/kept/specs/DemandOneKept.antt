@@ -1,8 +1,7 @@
 -- Demand 1 is kept: each promise of crates/promises under 'DEMAND 1', from the laws of files (crates/encoding, crates/book_encoding) and of boards
 -- that stay good (crates/firings).
-use Rattle.std.specs.Prelude.{ℕ, ◌≤◌, ◌≡◌, refl, Bool, true, false, List, length, ltb}
+use Rattle.std.specs.Prelude.{ℕ, ◌≤◌, ◌≡◌, refl, Bool, true, false, List, length, ltb, if◌then◌else◌}
 use Rattle.std.proofs.Common.{arith, sym, subst, lt-ltb, le-ltb}
-use Rattle.meaning.specs.Basics.{if◌then◌else◌}
 use Rattle.meaning.specs.Facts.{Kind, Board, longest_board, longest_strip}
 use Rattle.meaning.specs.Rules.{Book}
 use Rattle.meaning.specs.Firing.{End, Quiet, Limit, Full, Spent, Stuck, Ran, run}

@@ -8,7 +8,7 @@ use Rattle.meaning.specs.Firing.{spent, End, Quiet, Limit, Full, Spent, Stuck, R
 use Rattle.meaning.specs.Words.{strip_kinds, attempt, run_strip}
 use Rattle.meaning.specs.Translation.{translate}
 use Rattle.meaning.specs.WellFormed.{GoodBook, GoodBoard}
-use Rattle.files.specs.Numbers.{board, end_number, end_answer}
+use Rattle.files.specs.Numbers.{end_number, end_answer}
 use Rattle.files.specs.Judge.{Bytes, accepted, refused}
 use Rattle.files.specs.Board.{judge_board}
 use Rattle.files.specs.Book.{judge_book}
@@ -45,8 +45,8 @@ translations_are_strips_lem book_file room b bytes e l =
     })
 
 -- "For each attempt some number of steps is enough"
-pub attempts-end : AttemptsEnd
-attempts-end b rows good rows_good = let t = attempt-takes good rows_good in (t.0, t.2)
+pub attempts_end_lem : AttemptsEnd
+attempts_end_lem b rows good rows_good = let t = attempt-takes good rows_good in (t.0, t.2)
 
 -- ---- ends by their numbers
 
@@ -167,7 +167,7 @@ boards_refused_alike_lem book_file board_file limit allowance room strip_room b 
 pub demand_three : DemandThree
 demand_three = record {
   translations_are_strips = translations_are_strips_lem;
-  attempts_end = attempts-end;
+  attempts_end = attempts_end_lem;
   strips_agree = strips_agree_lem;
   boards_refused_alike = boards_refused_alike_lem;
 }

@@ -24,7 +24,6 @@ use Rattle.firings.specs.Firings as F
 use Rattle.firings.specs.Firings.{MeldStep, FullIs, quiet_exactly_if_none_fits}
 use Rattle.firings.specs.Counting.{unused_and_used}
 use Rattle.firings.specs.Quiet.{quiet_exactly_if_no_step}
-use Rattle.firings.specs.Runs as R
 use Rattle.firings.specs.Runs.{Fires, no_more, fires_then, EndsAs, run_is, run_quiet_exactly_if_none_fits}
 use Rattle.book_encoding.specs.Accepted.{book_accepted}
 use Rattle.kept.specs.DemandOneKept.{run_book_is}
@@ -194,5 +193,5 @@ quiet_is_melds_lem b good rows =
     ((λ h. s.0 (q.1 (z.1 h))), λ h. z.0 (q.0 (s.1 h)))
 
 -- DEMAND 2
-pub demand-two : DemandTwo
-demand-two = record { fit_says_fits = fit_says_fits_lem; choices_are_all = choices_are_all_lem; runs_are_allowed = runs_are_allowed_lem; quiet_is_melds = quiet_is_melds_lem }
+pub demand_two : DemandTwo
+demand_two = record { fit_says_fits = fit_says_fits_lem; choices_are_all = choices_are_all_lem; runs_are_allowed = runs_are_allowed_lem; quiet_is_melds = quiet_is_melds_lem }

@@ -3,9 +3,8 @@
 use Prim.Native.Nat.{ℕ, zero, suc, ◌+◌, ◌*◌, ◌-◌, ◌/◌, ◌%◌, ◌≤◌, ◌<◌}
 use Rattle.std.proofs.Common.{arith, inl, inr}
 use Rattle.std.proofs.Math.Path.{refl}
-use Rattle.std.specs.Prelude.{Bool, true, false, ◌&&◌, not, ◌||◌, length, eqb, leb, ltb}
+use Rattle.std.specs.Prelude.{Bool, true, false, ◌&&◌, not, ◌||◌, length, eqb, leb, ltb, if◌then◌else◌}
 use mathlib.Core.List.{List, [], ◌∷◌, ◌++◌}
-use Rattle.meaning.specs.Basics.{if◌then◌else◌}
 use Rattle.meaning.specs.Facts.{Kind, Fact, Board, most_kinds, most_rules, most_sweeps, variables, most_numbers, most_cards, most_notices, longest_strip, arity_of}
 use Rattle.meaning.specs.Rules.{Term, constant, variable, Atom}
 use Rattle.meaning.specs.Words.{Word}

@@ -4,12 +4,12 @@ use Prim.Native.Nat.{ℕ, zero, suc, ◌<◌}
 use native.Mathlib.Omega.{arith}
 use Rattle.std.proofs.Math.Path.{◌≡◌, refl, subst}
 use Rattle.std.proofs.Common.{sym, ◌∙◌, inl, inr, length-set}
-use Rattle.std.specs.Prelude.{◌⊎◌, Bool, true, false, length, set, replicate, eqb, ltb}
+use Rattle.std.specs.Prelude.{◌⊎◌, Bool, true, false, length, set, replicate, eqb, ltb, if◌then◌else◌}
 use Rattle.std.proofs.Math.Option.{Option, none, some, some-injective}
 use mathlib.Core.List.{List, [], ◌∷◌, ◌++◌, map}
 use Rattle.std.proofs.Math.ListN.{get_elem?}
 use Rattle.std.proofs.lemmas.List.{length-replicate}
-use Rattle.meaning.specs.Basics.{if◌then◌else◌, ◌>>=◌, change, All}
+use Rattle.meaning.specs.Basics.{◌>>=◌, change, All}
 use Rattle.meaning.specs.Facts.{Kind, Fact, Board, number_limit, is_card, arity_of, rows_of}
 use Rattle.meaning.specs.Rules.{Term, constant, variable, Values, value_of, holds}
 use Rattle.meaning.specs.Fit.{may_stand}

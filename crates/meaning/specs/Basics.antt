@@ -1,15 +1,9 @@
--- The few tools that the other files are written with: a condition, an option gone on with, a fold, the first answer of a list, one changed
+-- The few tools that the other files are written with: an option gone on with, a fold, the first answer of a list, one changed
 -- place of a function, and what holds of each element.
-use Rattle.std.specs.Prelude.{ℕ, Bool, true, false, ◌||◌, eqb}
+use Rattle.std.specs.Prelude.{ℕ, Bool, true, false, cond, ◌||◌, eqb}
 use Rattle.std.proofs.Math.Option.{Option, none, some}
 use mathlib.Core.List.{List, [], ◌∷◌, Memᴰ}
 
--- a condition and its two outcomes
-abbrev pub if◌then◌else◌ {ℓ} : {X : Type ℓ} → Bool → X → X → X
-if true then x else y = x
-if false then x else y = y
-
-infix 10 if◌then◌else◌
 -- and then, where there is something
 abbrev pub ◌>>=◌ {ℓ ℓ'} : {A : Type ℓ} {B : Type ℓ'} → Option A → (A → Option B) → Option B
 none >>= f = none
@@ -33,7 +27,7 @@ fold f w (a ∷ more) = fold f (f w a) more
 
 -- a function with one place changed
 abbrev pub change {ℓ} : {X : Type ℓ} → (ℕ → X) → ℕ → X → ℕ → X
-change f place x = λ i. if eqb i place then x else f i
+change f place x = λ i. cond (eqb i place) x (f i)
 
 -- is the number in the list
 abbrev pub mem : ℕ → List ℕ → Bool

@@ -1,8 +1,8 @@
 -- Meld 2.0 Semantics (source document 001), sections 2.4, 2.4.1 and 2.5, rule by rule: each constructor is the paper's rule of that name. Then
 -- how a rule of a book is such a formula. Left out, as document 01 says: addresses, head existentials, aggregates; and Ψ, which would hold
 -- constants and functions only.
-use Rattle.std.specs.Prelude.{◌≡◌, ℕ, ◌+◌, Bool, true, false, ◌&&◌, List, [], ◌∷◌, ◌++◌, map, eqb}
-use Rattle.meaning.specs.Basics.{if◌then◌else◌, change, mem, In}
+use Rattle.std.specs.Prelude.{◌≡◌, ℕ, ◌+◌, Bool, true, false, ◌&&◌, List, [], ◌∷◌, ◌++◌, map, eqb, if◌then◌else◌}
+use Rattle.meaning.specs.Basics.{change, mem, In}
 use Rattle.meaning.specs.Facts.{Kind, Fact, is_card}
 use Rattle.meaning.specs.Rules.{Term, constant, variable, Atom, Comparison, compare, Test, Sweep, Rule, Values}
 use Rattle.meaning.specs.Translation.{bound_by}

@@ -1,10 +1,10 @@
 -- The promises, as types, in the order and the words of the customer's three demands. They speak of the definitions on bytes (crates/files) that
 -- the entries' contracts cite, so nothing lies between a promise and the code. The last lines are the three demands.
 -- docs/PROMISES.md says where each is proved, and which wrong engines it shuts out.
-use Rattle.std.specs.Prelude.{◌≡◌, ◌⊎◌, ◌↔◌, ℕ, suc, ◌+◌, ◌*◌, ◌≤◌, ◌<◌, Bool, true, false, ◌||◌, List, [], ◌∷◌, ◌++◌, map, length, drop, leb}
+use Rattle.std.specs.Prelude.{◌≡◌, ◌⊎◌, ◌↔◌, ℕ, suc, ◌+◌, ◌*◌, ◌≤◌, ◌<◌, Bool, true, false, ◌||◌, List, [], ◌∷◌, ◌++◌, map, length, drop, leb, if◌then◌else◌}
 use Rattle.std.proofs.Math.Option.{Option, none, some}
 use Rattle.std.proofs.Math.ListN.{get_elem?}
-use Rattle.meaning.specs.Basics.{if◌then◌else◌, mem, In, All}
+use Rattle.meaning.specs.Basics.{mem, In, All}
 use Rattle.meaning.specs.Facts.{Kind, Fact, Board, most_kinds, longest_book, longest_board, longest_strip, is_card}
 use Rattle.meaning.specs.Rules.{Atom, Sweep, Rule, Book, occurs_in}
 use Rattle.meaning.specs.Fit.{Choice, Marks, no_marks, Bindings, lookup, values_of, Known, nothing_known, IsChoice, Under, Fits, Before, card_rows, Apart, Unused, AtomsEqual, fit, choices}
