@@ -25,14 +25,14 @@ abbrev checked_for : Option (Refusal × ℕ) → BoardChecked
 checked_for none = C.Accepted
 checked_for (some (why, at)) = refused_for why at
 
-back : (r : BoardChecked) → checked_for (board_told r) ≡ r
-back C.Accepted = refl
-back (C.Cut at) = refl
-back (C.Mark at) = refl
-back (C.Place at) = refl
-back (C.Many at) = refl
-back (C.Field at) = refl
-back (C.Trail at) = refl
-
 pub board_told_settles : (r s : BoardChecked) → board_told r ≡ board_told s → r ≡ s
 board_told_settles r s e = sym (back r) ∙ ap checked_for e ∙ back s
+  where
+    back : (r : BoardChecked) → checked_for (board_told r) ≡ r
+    back C.Accepted = refl
+    back (C.Cut at) = refl
+    back (C.Mark at) = refl
+    back (C.Place at) = refl
+    back (C.Many at) = refl
+    back (C.Field at) = refl
+    back (C.Trail at) = refl

@@ -1,4 +1,6 @@
 // The board file: its sizes and marks, and the check that a file is a board of the kinds that a book or a strip declares.
+#![tactic(auto)]
+
 ghost use Rattle.std.specs.Prelude.{◌≡◌};
 ghost use Rattle.files.specs.Judge.{told};
 ghost use Rattle.files.specs.Entries.{tells_nothing};
@@ -11,7 +13,7 @@ use fields::starts_with;
 use kinds::Kinds;
 
 // The home of a board's sizes and marks.
-#[derive(Drop)]
+#[derive(Clone, Copy)]
 pub struct Board {}
 
 impl Board {
@@ -29,7 +31,7 @@ impl Board {
 }
 
 // What a file is judged to be: a board, or refused for a reason at a place.
-#[derive(Drop)]
+#[derive(Clone, Copy)]
 pub enum BoardChecked {
     Accepted,
     Cut(usize),
@@ -41,7 +43,7 @@ pub enum BoardChecked {
 }
 
 // The fields of a row: how many bytes they are, or why they are refused.
-#[derive(Drop)]
+#[derive(Clone, Copy)]
 enum RowFields {
     Bytes(usize),
     Cut,
@@ -49,7 +51,7 @@ enum RowFields {
 }
 
 // One record: a card or a notice of so many bytes, the end, or why it is refused.
-#[derive(Drop)]
+#[derive(Clone, Copy)]
 enum BoardRecord {
     Card(usize),
     Notice(usize),

@@ -1,5 +1,6 @@
 -- The fields of a record, in the terms of the reader's code: bytes and two-byte values at a place, one term, terms, a kind and its terms, class
 -- and arity, a test. A law for each `return`.
+use Rattle.std.specs.Prelude.{if◌then◌else◌}
 use Prim.Native.Nat.{ℕ, suc, ◌+◌, ◌-◌, ◌*◌, ◌≤◌, ◌<◌}
 use mathlib.Core.Path.{◌≡◌, refl, sym, ap, ◌∙◌, subst}
 use mathlib.Core.Bool.{Bool, true, false, ◌||◌, or-false, or_assoc}
@@ -11,7 +12,6 @@ use lib.ListN.{length, get_or, take, drop, length-drop, drop_of_length-le}
 use lib.Seq.{take_all, drop-cons, drop-drop}
 use lib.Dec.{eqb, leb, ltb}
 use borrow.Author.Tests.{le-leb, lt-leb, lt-ltb, le-ltb, eq-eqb, ne_eqb}
-use Rattle.meaning.specs.Basics.{if◌then◌else◌}
 use Rattle.meaning.specs.Facts.{variables, most_kinds, most_numbers, arity_of}
 use Rattle.meaning.specs.Rules.{Term, constant, variable, Atom, occurs_in_terms}
 use Rattle.files.specs.Numbers.{Refusal, CUT, FIELD, LOOSE}

@@ -1,4 +1,5 @@
 -- The kinds at the start of any bytes, read one by one.
+use Rattle.std.specs.Prelude.{if◌then◌else◌}
 use Prim.Native.Nat.{ℕ, zero, suc, ◌+◌, ◌-◌, ◌*◌, ◌≤◌, ◌<◌}
 use mathlib.Core.Path.{◌≡◌, refl, sym, ap, ap₂, ◌∙◌}
 use mathlib.Core.Bool.{Bool, true, false, not}
@@ -8,7 +9,6 @@ use lib.ListN.{length, get_or, take, drop, set, length-set, drop_of_length-le}
 use lib.Seq.{drop-drop, get_or-drop}
 use lib.Dec.{eqb}
 use borrow.Author.Tests.{not-true, not-false}
-use Rattle.meaning.specs.Basics.{if◌then◌else◌}
 use Rattle.meaning.specs.Facts.{Kind, most_kinds}
 use Rattle.files.specs.Marks.{KD, is_mark}
 use Rattle.files.specs.InPlace.{byte_at, prepend, records_at, kind_at, kinds_at}

@@ -1,4 +1,6 @@
 // The book: its sizes and marks, the reader that judges a file as a book, and the kinds that it declares.
+#![tactic(auto)]
+
 ghost use Rattle.std.specs.Prelude.{◌≡◌, ℕ, ◌+◌, ◌≤◌, ◌<◌, List, [], ◌∷◌, length};
 ghost use Rattle.files.specs.Judge.{told};
 ghost use Rattle.files.specs.Entries.{tells_nothing};
@@ -19,7 +21,7 @@ use kinds::Kinds;
 type Variables = u16;
 
 // A book as far as it is read.
-#[derive(Drop)]
+#[derive(Clone, Copy)]
 pub struct Book {
     kinds: Kinds,
     // how many rules, the open one among them
@@ -89,7 +91,7 @@ impl Book {
 }
 
 // What a check tells of a book: it is accepted, or a refusal and its place.
-#[derive(Drop)]
+#[derive(Clone, Copy)]
 pub enum BookChecked {
     Accepted,
     Cut(usize),
@@ -104,28 +106,28 @@ pub enum BookChecked {
 }
 
 // How many bytes are read with a field or a record, or what the check tells.
-#[derive(Drop)]
+#[derive(Clone, Copy)]
 enum Took {
     Bytes(usize),
     Told(BookChecked),
 }
 
 // A field, and the variables that are known after it. Where something is told, they are of no use.
-#[derive(Drop)]
+#[derive(Clone, Copy)]
 struct Scan {
     took: Took,
     known: Variables,
 }
 
 // A record, and the book as far as it is read after it. Where something is told, that book is of no use.
-#[derive(Drop)]
+#[derive(Clone, Copy)]
 struct Next {
     took: Took,
     book: Book,
 }
 
 // The marks that a book has.
-#[derive(Drop)]
+#[derive(Clone, Copy)]
 enum Mark {
     Kd,
     Ru,
@@ -138,7 +140,7 @@ enum Mark {
 }
 
 // What a body lacks.
-#[derive(Drop)]
+#[derive(Clone, Copy)]
 enum Lack {
     Nothing,
     Card,

@@ -1,4 +1,6 @@
 // Bytes, two-byte numbers and marks, read where they stand in a file. Past the end they are 0.
+#![tactic(auto)]
+
 ghost use Rattle.std.specs.Prelude.{◌≡◌, ◌+◌, ◌*◌, ◌<◌};
 ghost use Rattle.files.specs.Marks.{is_mark};
 ghost use Rattle.files.specs.InPlace.{byte_at, two_at};

@@ -1,9 +1,8 @@
 -- The kinds of a struct `Kinds`, one by one: how many there are, what kind k is, and that one more kind stands at the end of the list.
-use Rattle.std.specs.Prelude.{ℕ, zero, suc, ◌+◌, ◌≤◌, ◌<◌, ◌≡◌, refl, Bool, true, false, not, List, [], ◌∷◌, ◌++◌, length, get_or, set, eqb, leb, ltb}
+use Rattle.std.specs.Prelude.{ℕ, zero, suc, ◌+◌, ◌≤◌, ◌<◌, ◌≡◌, refl, Bool, true, false, not, List, [], ◌∷◌, ◌++◌, length, get_or, set, eqb, leb, ltb, if◌then◌else◌}
 use Rattle.std.proofs.Common.{add-zero, add-suc, suc-add, zero-add, arith, sym, ap, ap₂, ◌∙◌, get_or-set_same, get_or-set_other, leb-true, leb-false, lt-ltb, le-ltb, le-leb}
 use Rattle.std.proofs.Math.ListN.{get_or-eq_default}
 use Rattle.std.proofs.lemmas.Bool.{lt-leb}
-use Rattle.meaning.specs.Basics.{if◌then◌else◌}
 use Rattle.meaning.specs.Facts.{Kind, no_kind, is_card, arity_of, most_kinds}
 use Rattle.files.specs.Board.{is_of_class}
 use Rattle.kinds.specs.declared.Kinds.{Kinds}

@@ -1,6 +1,5 @@
 -- What the struct `Kinds` says: the list of kinds in document 01's terms.
-use Rattle.std.specs.Prelude.{ℕ, zero, suc, ◌+◌, List, [], ◌∷◌, get_or, set, replicate, eqb, leb}
-use Rattle.meaning.specs.Basics.{if◌then◌else◌}
+use Rattle.std.specs.Prelude.{ℕ, zero, suc, ◌+◌, List, [], ◌∷◌, get_or, set, replicate, eqb, leb, if◌then◌else◌}
 use Rattle.meaning.specs.Facts.{Kind, most_kinds}
 use Rattle.kinds.specs.declared.Kinds.{Kinds}
 

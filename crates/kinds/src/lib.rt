@@ -1,11 +1,13 @@
 // The kinds that a book or a strip declares, by value: what a board is read against.
+#![tactic(auto)]
+
 ghost use Rattle.std.specs.Prelude.{◌≡◌};
 ghost use Rattle.meaning.specs.Facts.{arity_of};
 ghost use Rattle.files.specs.Board.{is_of_class};
 ghost use Rattle.kinds.specs.Listed.{kinds_of, no_kinds, with_kind};
 
 // So many kinds, at most 32: each one's class (0 card, 1 notice) and how many numbers it has.
-#[derive(Drop)]
+#[derive(Clone, Copy)]
 pub struct Kinds {
     pub count: usize,
     pub class: [u8; 32],

@@ -1,7 +1,6 @@
 -- What the readers by position answer, for any bytes: past the longest book nothing stands. On a file no longer than that they read what
 -- crates/files InPlace does (StandsLaws).
-use Rattle.std.specs.Prelude.{ℕ, zero, suc, ◌+◌, ◌*◌, Bool, ◌&&◌, List, ltb}
-use Rattle.meaning.specs.Basics.{if◌then◌else◌}
+use Rattle.std.specs.Prelude.{ℕ, zero, suc, ◌+◌, ◌*◌, Bool, ◌&&◌, List, ltb, if◌then◌else◌}
 use Rattle.meaning.specs.Facts.{Kind, longest_book, most_in_rule, most_in_sweep, most_sweeps, arity_of}
 use Rattle.files.specs.Marks.{is_mark, RU, BA, TE, HE, SW}
 use Rattle.files.specs.InPlace.{byte_at, two_at}

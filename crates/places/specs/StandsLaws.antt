@@ -1,10 +1,9 @@
 -- On a file no longer than the longest book, the readers by position find what crates/files InPlace reads: a mark has no zero letter, so where one
 -- stands the place lies within the file.
-use Rattle.std.specs.Prelude.{ℕ, zero, suc, ◌+◌, ◌≤◌, ◌<◌, ◌≡◌, refl, Bool, true, false, ◌&&◌, List, [], length, get_or, eqb, ltb}
+use Rattle.std.specs.Prelude.{ℕ, zero, suc, ◌+◌, ◌≤◌, ◌<◌, ◌≡◌, refl, Bool, true, false, ◌&&◌, List, [], length, get_or, eqb, ltb, if◌then◌else◌}
 use Rattle.std.proofs.Common.{add-zero, zero-add, arith, sym, ◌∙◌, ltb-true, ltb-false, lt-ltb, ne_eqb}
 use Rattle.std.proofs.Math.Path.{ap}
 use Rattle.std.proofs.Math.ListN.{get_or-eq_default}
-use Rattle.meaning.specs.Basics.{if◌then◌else◌}
 use Rattle.meaning.specs.Facts.{Kind, longest_book, most_in_rule, most_in_sweep, most_sweeps}
 use Rattle.meaning.specs.Rules.{Atom, Test}
 use Rattle.files.specs.Marks.{is_mark, RU, BA, TE, HE, SW}

@@ -1,4 +1,6 @@
 // Where things stand in a book: readers by position for whoever reads an accepted book in place. They judge nothing, and take any bytes.
+#![tactic(auto)]
+
 ghost use Rattle.std.specs.Prelude.{◌≡◌, ℕ, ◌+◌, ◌*◌, ◌≤◌, ◌<◌, length};
 ghost use Rattle.kinds.specs.Listed.{kinds_of};
 ghost use Rattle.places.specs.Stands.{mark_stands, term_stands, test_stands, atom_size, atoms_from, tests_from, conditions_from, groups_end, sweeps_from, rule_end, rules_from};
@@ -8,14 +10,14 @@ use fields::{byte_at, two_at};
 use kinds::Kinds;
 
 // A term: its tag (0 constant, 1 variable) and its value.
-#[derive(Drop)]
+#[derive(Clone, Copy)]
 pub struct Term {
     pub tag: u8,
     pub value: u16,
 }
 
 // A test: its number (0 equal, 1 unequal, 2 less, 3 less or equal) and its terms.
-#[derive(Drop)]
+#[derive(Clone, Copy)]
 pub struct Test {
     pub number: u8,
     pub left: Term,
@@ -23,14 +25,14 @@ pub struct Test {
 }
 
 // So many records, and the place after them.
-#[derive(Drop)]
+#[derive(Clone, Copy)]
 pub struct Span {
     pub count: usize,
     pub next: usize,
 }
 
 // What a rule or a sweep asks for: where its body atoms and its tests stand, and how many they are; its heads stand after them.
-#[derive(Drop)]
+#[derive(Clone, Copy)]
 pub struct Conditions {
     pub body_at: usize,
     pub body: usize,

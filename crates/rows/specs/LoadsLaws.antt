@@ -1,11 +1,11 @@
 -- A board that is loaded is the board that the arrays hold: at most 256 cards and 128 notices, each fact with the numbers of its kind.
 use Prim.Native.Nat.{ℕ, zero, suc, ◌+◌, ◌≤◌}
 use native.Mathlib.Omega.{arith}
-use Rattle.std.specs.Prelude.{◌≡◌, refl, Bool, List, [], map}
+use Rattle.std.specs.Prelude.{◌≡◌, refl, Bool, List, [], map, if◌then◌else◌}
 use Rattle.std.proofs.Common.{sym, ap, ◌∙◌}
 use Rattle.std.proofs.Math.Bool.{true, false}
 use Rattle.std.proofs.Math.ListN.{length}
-use Rattle.meaning.specs.Basics.{if◌then◌else◌, All}
+use Rattle.meaning.specs.Basics.{All}
 use Rattle.meaning.specs.Facts.{Kind, Fact, Board, arity_of, most_cards, most_notices}
 use Rattle.meaning.specs.WellFormed.{GoodKind}
 use Rattle.files.specs.Marks.{CA, NO, is_mark}

@@ -1,7 +1,6 @@
 -- The bytes of the board that the arrays hold, at the start of an output.
-use Rattle.std.specs.Prelude.{ℕ, ◌+◌, ◌*◌, ◌≤◌, ◌≡◌, Bool, ◌&&◌, List, [], ◌++◌, length, drop, leb}
+use Rattle.std.specs.Prelude.{ℕ, ◌+◌, ◌*◌, ◌≤◌, ◌≡◌, Bool, ◌&&◌, List, [], ◌++◌, length, drop, leb, if◌then◌else◌}
 use Rattle.std.proofs.lemmas.List.Edits.{sets}
-use Rattle.meaning.specs.Basics.{if◌then◌else◌}
 use Rattle.meaning.specs.Facts.{Kind, most_cards, most_notices, longest_board}
 use Rattle.files.specs.Encode.{encode_board}
 use Rattle.rows.specs.declared.Count.{Count}

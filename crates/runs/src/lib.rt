@@ -1,11 +1,13 @@
 // What a run over the arrays answers, of a book as of a strip.
+#![tactic(auto)]
+
 ghost use Rattle.std.specs.Prelude.{◌≡◌};
 ghost use Rattle.runs.specs.Runs.{ran_with};
 
 use rows::Count;
 
 // How a run ends.
-#[derive(Drop)]
+#[derive(Clone, Copy)]
 pub enum End {
     Quiet,
     Limit,
@@ -15,7 +17,7 @@ pub enum End {
 }
 
 // A run over the arrays: its end, the rows in use, the firings done and the last fired rule, 255 if none.
-#[derive(Drop)]
+#[derive(Clone, Copy)]
 pub struct Ran {
     pub end: End,
     pub count: Count,
@@ -41,7 +43,7 @@ pub fn stopped(end: End, count: Count, firings: u16, rule: u8) -> Ran
 }
 
 // A run whose board is written: its end, the board's length, the firings done and the last fired rule.
-#[derive(Drop)]
+#[derive(Clone, Copy)]
 pub struct Ended {
     pub end: End,
     pub length: usize,

@@ -1,7 +1,6 @@
 -- The arrays after a firing (document 01, 'Which firing', from "New cards" on). The firing's used card rows are marked by a byte that is not 0; its
 -- made cards stand in arrays of their own, and its made notices already behind the notices.
-use Rattle.std.specs.Prelude.{ℕ, zero, suc, ◌+◌, ◌≡◌, Bool, not, ◌&&◌, List, ◌++◌, length, get_or, eqb, leb}
-use Rattle.meaning.specs.Basics.{if◌then◌else◌}
+use Rattle.std.specs.Prelude.{ℕ, zero, suc, ◌+◌, ◌≡◌, Bool, not, ◌&&◌, List, ◌++◌, length, get_or, eqb, leb, if◌then◌else◌}
 use Rattle.meaning.specs.Facts.{Fact, most_cards, most_notices}
 use Rattle.meaning.specs.Fit.{Marks}
 use Rattle.meaning.specs.Firing.{unused_rows}

@@ -1,8 +1,7 @@
 -- What `settle` leaves is document 01's board after the firing: FULL exactly if that board has no room, else the arrays hold it.
-use Rattle.std.specs.Prelude.{ℕ, zero, suc, ◌+◌, ◌≤◌, ◌<◌, ◌≡◌, refl, Bool, true, false, ◌&&◌, List, [], ◌∷◌, ◌++◌, map, length, leb}
+use Rattle.std.specs.Prelude.{ℕ, zero, suc, ◌+◌, ◌≤◌, ◌<◌, ◌≡◌, refl, Bool, true, false, ◌&&◌, List, [], ◌∷◌, ◌++◌, map, length, leb, if◌then◌else◌}
 use Rattle.std.proofs.Common.{add-zero, arith, sym, ap, ap₂, ◌∙◌, length-append, le-leb, leb-true}
 use Rattle.std.proofs.lemmas.List.{map-append, length-map}
-use Rattle.meaning.specs.Basics.{if◌then◌else◌}
 use Rattle.meaning.specs.Facts.{Kind, Fact, Board, most_cards, most_notices}
 use Rattle.meaning.specs.Fit.{Marks}
 use Rattle.meaning.specs.Firing.{Work, unused_rows, of_class, board_after, has_room, Firing, full, fired, settle}

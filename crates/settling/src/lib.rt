@@ -1,4 +1,6 @@
 // The board after a firing: the rows in two arrays (crates/rows), changed in place.
+#![tactic(auto)]
+
 ghost use Rattle.std.specs.Prelude.{◌≡◌, true, ◌+◌, ◌*◌, ◌≤◌, ◌<◌, length, get_or, set, leb};
 ghost use Rattle.rows.specs.Held.{four_from, rows_from, with_four, kinds_with, numbers_with};
 ghost use Rattle.settling.specs.Settles.{kept_cards, kept_count, BoardSettled};
@@ -8,7 +10,7 @@ use board::Board;
 use rows::Count;
 
 // What a firing comes to: no room for it, or so many rows afterwards.
-#[derive(Drop)]
+#[derive(Clone, Copy)]
 pub enum Settled {
     Full,
     Fired(Count),

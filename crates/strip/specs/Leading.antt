@@ -1,6 +1,5 @@
 -- The kinds that the leading KIND words of any bytes declare, as many as there is room for.
-use Rattle.std.specs.Prelude.{ℕ, zero, suc, ◌+◌, ◌*◌, ◌/◌, List, length, eqb}
-use Rattle.meaning.specs.Basics.{if◌then◌else◌}
+use Rattle.std.specs.Prelude.{ℕ, zero, suc, ◌+◌, ◌*◌, ◌/◌, List, length, eqb, if◌then◌else◌}
 use Rattle.files.specs.InPlace.{byte_at}
 use Rattle.files.specs.Strip.{word_bytes}
 use Rattle.kinds.specs.Listed.{no_kinds, with_kind}

@@ -12,9 +12,9 @@ abbrev checked_for : Option (Refusal × ℕ) → StripChecked
 checked_for none = C.Accepted
 checked_for (some (why, i)) = C.Refused i
 
-back : (r : StripChecked) → checked_for (strip_told r) ≡ r
-back C.Accepted = refl
-back (C.Refused i) = refl
-
 pub strip_told_settles : (r s : StripChecked) → strip_told r ≡ strip_told s → r ≡ s
 strip_told_settles r s e = sym (back r) ∙ ap checked_for e ∙ back s
+  where
+    back : (r : StripChecked) → checked_for (strip_told r) ≡ r
+    back C.Accepted = refl
+    back (C.Refused i) = refl

@@ -1,4 +1,6 @@
 // The strip file: words of 8 bytes. Its sizes, the check that a file is a strip, and the kinds that it declares.
+#![tactic(auto)]
+
 ghost use Rattle.std.specs.Prelude.{◌≡◌, ℕ, ◌+◌, ◌*◌, ◌≤◌, ◌<◌, length};
 ghost use Rattle.meaning.specs.Facts.{longest_strip};
 ghost use Rattle.files.specs.Judge.{told};
@@ -12,7 +14,7 @@ use fields::{byte_at, two_at};
 use kinds::Kinds;
 
 // The home of a strip's sizes.
-#[derive(Drop)]
+#[derive(Clone, Copy)]
 pub struct Strip {}
 
 impl Strip {
@@ -26,14 +28,14 @@ impl Strip {
 }
 
 // What a file is judged to be: a strip, or refused at a word.
-#[derive(Drop)]
+#[derive(Clone, Copy)]
 pub enum StripChecked {
     Accepted,
     Refused(usize),
 }
 
 // A word's fields, in their order.
-#[derive(Drop)]
+#[derive(Clone, Copy)]
 struct Word {
     code: u8,
     a: u8,
@@ -44,7 +46,7 @@ struct Word {
 }
 
 // What stands before a word: how many KINDs, and whether any other code.
-#[derive(Drop)]
+#[derive(Clone, Copy)]
 struct Earlier {
     kinds: usize,
     others: bool,
