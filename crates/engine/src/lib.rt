@@ -1,4 +1,6 @@
-// The engine for other languages: document 01's six entries behind functions of C. Every function takes any bytes.
+// The engine: document 01's six entries under one roof. Every function takes any bytes. crates/engine_c hands them to other languages.
+#![tactic(auto)]
+
 ghost use Rattle.std.specs.Prelude.{◌≡◌, ℕ, ◌<◌, length};
 ghost use Rattle.files.specs.Numbers as N;
 ghost use Rattle.files.specs.Numbers.{book, strip, board};
@@ -176,24 +178,21 @@ fn of_translated(translated: Translated) -> Answer
 }
 
 // Is the file a rule book?
-#[unsafe(no_mangle)]
-pub extern "C" fn llwybrenu_check_book(book: &[u8]) -> Answer
+pub fn llwybrenu_check_book(book: &[u8]) -> Answer
     ensures { answer_of result ≡ shown (check_book book.now).answer }
 {
     of_book(book::check_book(book))
 }
 
 // Is the file a rule strip?
-#[unsafe(no_mangle)]
-pub extern "C" fn llwybrenu_check_strip(strip: &[u8]) -> Answer
+pub fn llwybrenu_check_strip(strip: &[u8]) -> Answer
     ensures { answer_of result ≡ shown (check_strip strip.now).answer }
 {
     of_strip(strip::check_strip(strip))
 }
 
 // Is the second file a board of the book that the first one is?
-#[unsafe(no_mangle)]
-pub extern "C" fn llwybrenu_check_board(book: &[u8], board: &[u8]) -> Answer
+pub fn llwybrenu_check_board(book: &[u8], board: &[u8]) -> Answer
     ensures { answer_of result ≡ shown (check_board book.now board.now).answer }
 {
     let told = book::check_book(book);
@@ -204,13 +203,7 @@ pub extern "C" fn llwybrenu_check_board(book: &[u8], board: &[u8]) -> Answer
 }
 
 // Runs a rule book on a board, up to so many firings, and writes the board that it ends with from the start of the output.
-#[unsafe(no_mangle)]
-pub extern "C" fn llwybrenu_run_book(
-    book: &[u8],
-    board: &[u8],
-    limit: u16,
-    out: &mut [u8],
-) -> Answer
+pub fn llwybrenu_run_book(book: &[u8], board: &[u8], limit: u16, out: &mut [u8]) -> Answer
     ensures { (answer_of result ≡ shown (run_book_file book.now board.now limit (length out.old)).answer)
         × (out.new ≡ bytes_after (run_book_file book.now board.now limit (length out.old)) out.old) }
 {
@@ -218,8 +211,7 @@ pub extern "C" fn llwybrenu_run_book(
 }
 
 // Translates a rule book into a rule strip: gives its length, and writes it from the start of the output.
-#[unsafe(no_mangle)]
-pub extern "C" fn llwybrenu_translate(book: &[u8], out: &mut [u8]) -> Answer
+pub fn llwybrenu_translate(book: &[u8], out: &mut [u8]) -> Answer
     ensures { (answer_of result ≡ shown (translate_file book.now (length out.old)).answer)
         × (out.new ≡ bytes_after (translate_file book.now (length out.old)) out.old) }
 {
@@ -227,8 +219,7 @@ pub extern "C" fn llwybrenu_translate(book: &[u8], out: &mut [u8]) -> Answer
 }
 
 // Runs a rule strip on a board, up to so many firings of so many steps each, and writes the board that it ends with from the start of the output.
-#[unsafe(no_mangle)]
-pub extern "C" fn llwybrenu_run_strip(
+pub fn llwybrenu_run_strip(
     strip: &[u8],
     board: &[u8],
     limit: u16,

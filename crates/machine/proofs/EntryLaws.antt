@@ -1,4 +1,5 @@
 -- The entry: what is known once the files are judged, the board that is loaded, and what is written. One law for each answer.
+use Rattle.std.specs.Prelude.{if◌then◌else◌}
 use Prim.Native.Nat.{ℕ, zero, suc, ◌+◌, ◌*◌, ◌/◌, ◌≤◌, ◌<◌}
 use native.Mathlib.Omega.{arith}
 use mathlib.Core.Path.{◌≡◌, refl, sym, ap, ◌∙◌, subst}
@@ -9,7 +10,7 @@ use lib.Dec.{eqb, leb}
 use mir.Syntax.{w8}
 use mir.Val.{Fits}
 use borrow.Author.Tests.{leb-false, lt-ltb, le-ltb, not-true, not-false}
-use Rattle.meaning.specs.Basics.{if◌then◌else◌, All}
+use Rattle.meaning.specs.Basics.{All}
 use Rattle.meaning.specs.Facts.{Kind, Fact, Board, most_kinds, longest_board}
 use Rattle.meaning.specs.Words.{Word, strip_kinds, run_strip}
 use Rattle.meaning.specs.WellFormed.{GoodKind, GoodFact}

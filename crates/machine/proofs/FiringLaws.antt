@@ -1,4 +1,5 @@
 -- A firing: the made facts that are laid out settle as the definition says; an attempt that ends with a firing leaves rows of declared kinds.
+use Rattle.std.specs.Prelude.{if◌then◌else◌}
 use Prim.Native.Nat.{ℕ, zero, suc, ◌+◌, ◌-◌, ◌*◌, ◌≤◌, ◌<◌}
 use native.Mathlib.Nat.{add-zero, zero-add}
 use native.Mathlib.Omega.{arith}
@@ -8,7 +9,6 @@ use mathlib.Core.List.{List, [], ◌∷◌, ◌++◌, map}
 use lib.ListN.{length, get_or, length-append}
 use lib.Dec.{leb}
 use borrow.Author.Tests.{lt-leb}
-use Rattle.meaning.specs.Basics.{if◌then◌else◌}
 use Rattle.meaning.specs.Facts.{Kind, Fact, Board, is_card, most_cards, most_notices}
 use Rattle.meaning.specs.Fit.{Marks}
 use Rattle.meaning.specs.Firing.{Work, unused_rows, of_class, board_after, has_room, full, fired, settle, done}

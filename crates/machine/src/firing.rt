@@ -15,7 +15,7 @@ use settling::Settled;
 
 // What an attempt comes to: no rule fits; the firing would overfill the board; no step is left; a word finds nothing to go on with; or the rule, and
 // the rows after it.
-#[derive(Drop)]
+#[derive(Clone, Copy)]
 pub(in crate) enum Look {
     Quiet,
     Full,

@@ -17,7 +17,7 @@ use runs::{End, Ended, Ran, stopped};
 use strip::{StripChecked, check_strip};
 
 // What the entry answers: the strip is refused, or the board, or the output is short; or the run was made.
-#[derive(Drop)]
+#[derive(Clone, Copy)]
 pub enum StripRan {
     Strip(StripChecked),
     Board(BoardChecked),

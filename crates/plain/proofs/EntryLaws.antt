@@ -12,7 +12,7 @@ use Rattle.meaning.specs.Basics.{All}
 use Rattle.meaning.specs.WellFormed.{GoodKind}
 use Rattle.meaning.specs.Facts.{Kind, Board, longest_board}
 use Rattle.meaning.specs.Rules.{Book}
-use Rattle.meaning.specs.Firing.{Ran, run}
+use Rattle.meaning.specs.Firing.{run}
 use Rattle.files.specs.Numbers.{book, board}
 use Rattle.files.specs.Judge.{Bytes, accepted, told}
 use Rattle.files.specs.Board.{judge_board}

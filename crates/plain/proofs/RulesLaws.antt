@@ -1,4 +1,5 @@
 -- The walk over a book's rules. The loop's invariant, `Placing`: the places found so far, and those from here on, are all the rules' places.
+use Rattle.std.specs.Prelude.{if◌then◌else◌}
 use Prim.Native.Nat.{ℕ, zero, suc, ◌+◌, ◌*◌, ◌-◌, ◌^◌, ◌≤◌, ◌<◌}
 use native.Mathlib.Nat.{zero-add}
 use native.Mathlib.Omega.{arith}
@@ -8,7 +9,6 @@ use mathlib.Core.List.{List, [], ◌∷◌, ◌++◌, append_assoc, append-nil}
 use lib.ListN.{length, set, replicate, length-set}
 use lib.Seq.{get_or-set_same, get_or-set_other}
 use borrow.Author.Tests.{le-leb, not-true, not-false}
-use Rattle.meaning.specs.Basics.{if◌then◌else◌}
 use Rattle.meaning.specs.Facts.{Kind, most_kinds, most_rules, longest_book}
 use Rattle.files.specs.Marks.{KD, RU, is_mark}
 use Rattle.files.specs.InPlace.{byte_at, prepend, records_at, kind_at, rule_at, kinds_at}

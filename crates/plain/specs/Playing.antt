@@ -1,6 +1,5 @@
 -- One firing as the run sees it: what it may be asked of, and what it answers. `Playable` is what a run keeps from firing to firing.
-use Rattle.std.specs.Prelude.{◌≡◌, ℕ, zero, suc, ◌+◌, ◌≤◌, List, [], ◌∷◌, length}
-use Rattle.meaning.specs.Basics.{if◌then◌else◌}
+use Rattle.std.specs.Prelude.{◌≡◌, ℕ, zero, suc, ◌+◌, ◌≤◌, List, [], ◌∷◌, length, if◌then◌else◌}
 use Rattle.meaning.specs.Facts.{Kind, most_rules, most_cards, most_notices, longest_book}
 use Rattle.meaning.specs.Firing.{quiet, full, fired, fire}
 use Rattle.meaning.specs.WellFormed.{GoodBook, GoodBoard}

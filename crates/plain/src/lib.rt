@@ -1,4 +1,6 @@
 // The plain runner of a rule book.
+#![tactic(auto)]
+
 mod firing;
 mod first_atom;
 mod homes;

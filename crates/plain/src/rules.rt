@@ -11,7 +11,7 @@ use kinds::Kinds;
 use places::{is_marked, rule_end};
 
 // The places of the rules' bodies in the book, found once.
-#[derive(Drop)]
+#[derive(Clone, Copy)]
 pub(in crate) struct Rules {
     pub at: [u16; 32],
     pub count: usize,

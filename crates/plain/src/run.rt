@@ -18,7 +18,7 @@ use rows::Count;
 use runs::{End, Ended, Ran, stopped};
 
 // What the entry answers: the book is refused, or the board, or the output is short; or the run was made.
-#[derive(Drop)]
+#[derive(Clone, Copy)]
 pub enum BookRan {
     Book(BookChecked),
     Board(BoardChecked),

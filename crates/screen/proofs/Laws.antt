@@ -1,4 +1,5 @@
 -- What the pieces of a text come to: one law for each way that a function ends, in its own terms.
+use Rattle.std.specs.Prelude.{if◌then◌else◌}
 use Prim.Native.Nat.{ℕ, zero, suc, ◌+◌, ◌-◌, ◌*◌, ◌/◌, ◌%◌, ◌≤◌, ◌<◌}
 use native.Mathlib.Nat.{mod-eq_of_lt, add-zero, sub-zero}
 use native.Mathlib.Numerals.{add-one}
@@ -10,7 +11,6 @@ use lib.ListN.{length, get_or, drop, set, length-set}
 use lib.Seq.{drop-cons, drop-length, length-take-le}
 use lib.Dec.{eqb, ltb}
 use borrow.Author.Tests.{lt-ltb, le-ltb, ltb-true, eq-eqb, ne_eqb, not-true, not-false}
-use Rattle.meaning.specs.Basics.{if◌then◌else◌}
 use Rattle.meaning.specs.Facts.{Kind, Fact, Board, arity_of, most_cards, most_notices}
 use Rattle.files.specs.Numbers as N
 use Rattle.files.specs.Marks.{CA, NO, is_mark}

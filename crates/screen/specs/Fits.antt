@@ -1,10 +1,10 @@
 -- How long a display is at most, so that a screen of that many bytes shows all of it.
-use Rattle.std.specs.Prelude.{ℕ, zero, suc, ◌+◌, ◌*◌, ◌/◌, ◌%◌, ◌≤◌, ◌<◌, ◌≡◌, Bool, true, false, List, [], ◌∷◌, ◌++◌, take, drop, ltb}
+use Rattle.std.specs.Prelude.{ℕ, zero, suc, ◌+◌, ◌*◌, ◌/◌, ◌%◌, ◌≤◌, ◌<◌, ◌≡◌, Bool, true, false, List, [], ◌∷◌, ◌++◌, take, drop, ltb, if◌then◌else◌}
 use Rattle.std.proofs.Common.{div-lt_iff_lt-mul, add-zero, zero-add, arith, sym, ap, ap₂, ◌∙◌, append_assoc, length-append, take_at, lt-ltb}
 use Rattle.std.proofs.Math.Path.{refl}
 use Rattle.std.proofs.Math.ListN.{length}
 use Rattle.std.proofs.Math.Seq.{set-append_seam}
-use Rattle.meaning.specs.Basics.{if◌then◌else◌, All}
+use Rattle.meaning.specs.Basics.{All}
 use Rattle.meaning.specs.Facts.{Kind, Fact, Board, arity_of, most_kinds, most_numbers, number_limit}
 use Rattle.meaning.specs.Rules.{Book}
 use Rattle.meaning.specs.Firing.{End, Quiet, Limit, Full, Spent, Stuck, Ran, run}

@@ -1,7 +1,6 @@
 -- Text put into lent bytes: a byte goes to the place that is reached, and what finds no room is left out. Every other byte is kept.
-use Rattle.std.specs.Prelude.{ℕ, ◌+◌, ◌≡◌, refl, Bool, true, false, List, [], ◌∷◌, ◌++◌, length, set, ltb}
+use Rattle.std.specs.Prelude.{ℕ, ◌+◌, ◌≡◌, refl, Bool, true, false, List, [], ◌∷◌, ◌++◌, length, set, ltb, if◌then◌else◌}
 use Rattle.std.proofs.Common.{◌∙◌, length-set}
-use Rattle.meaning.specs.Basics.{if◌then◌else◌}
 
 -- the lent bytes, and the place that the next byte of the text goes to
 pub record Output : Type 0 where

@@ -1,6 +1,5 @@
 -- What a screen shows of an answer (document 01, the display program): the run's end and each row, or the one line of a refusal.
-use Rattle.std.specs.Prelude.{ℕ, List, [], ◌∷◌, ◌++◌, eqb, ltb}
-use Rattle.meaning.specs.Basics.{if◌then◌else◌}
+use Rattle.std.specs.Prelude.{ℕ, List, [], ◌∷◌, ◌++◌, eqb, ltb, if◌then◌else◌}
 use Rattle.meaning.specs.Facts.{Board}
 use Rattle.files.specs.Numbers.{Answer}
 use Rattle.files.specs.Encode.{concat_map}

@@ -1,5 +1,7 @@
 // What a screen shows of an answer, as text in lent bytes: document 01's display. Each function puts a piece of text at a place of the output, as
 // much as fits, and gives the place after it.
+#![tactic(auto)]
+
 ghost use Rattle.std.specs.Prelude.{◌≡◌, [], ◌∷◌, ◌+◌, ◌*◌, ◌%◌, ◌≤◌, ◌<◌};
 ghost use Rattle.files.specs.Display.{digits_before, decimal};
 ghost use Rattle.files.specs.Marks.{is_mark};
@@ -15,7 +17,7 @@ use board::Board;
 use kinds::Kinds;
 
 // The home of a screen's size.
-#[derive(Drop)]
+#[derive(Clone, Copy)]
 pub struct Screen {}
 
 impl Screen {
@@ -24,7 +26,7 @@ impl Screen {
 }
 
 // The place in the output after some lines, and the place in the board after the rows that they show.
-#[derive(Drop)]
+#[derive(Clone, Copy)]
 struct Lines {
     at: usize,
     next: usize,

@@ -1,4 +1,4 @@
 pub mod Written
-pub mod Contracts
+pub mod Parts
 pub mod Answers
 pub mod AnswersSettle
