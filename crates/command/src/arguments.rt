@@ -2,20 +2,50 @@
 ghost use Rattle.std.specs.Prelude.{◌≡◌, ◌≤◌, ◌<◌};
 ghost use Rattle.io.specs.Counts.{IsPrefixLen};
 
+use std::env::FillError;
+use std::rt::Env;
 use terminal::FileRead;
 
 // A number of decimal digits, or a word that is none.
-#[derive(Drop)]
+#[derive(Clone, Copy)]
 pub struct Amount {
     pub value: u64,
     pub is_number: bool,
 }
 
+// How many bytes of a word are taken; a longer one counts as none.
+const LONGEST: usize = 4096;
+
+// Is there no word at the place?
+fn is_missing(rt: HostRuntime, place: usize) -> bool {
+    matches!(rt.arg(place, &mut []), Err(FillError::NotPresent))
+}
+
+// How many words the program was started with, its own name among them.
+pub fn count(rt: HostRuntime) -> usize {
+    for place in 0..usize::MAX {
+        if is_missing(rt, place) {
+            return place;
+        }
+    }
+    usize::MAX
+}
+
+// Puts the word at a place at the start of the bytes and gives its length; 0 where it is missing or too long.
+fn word_at(rt: HostRuntime, place: usize, out: &mut [u8]) -> usize
+    ensures { IsPrefixLen result out.new }
+{
+    match rt.arg(place, out) {
+        Ok(n) => n,
+        Err(_) => 0,
+    }
+}
+
 // Is it the word at the place?
-pub fn is_word(place: usize, word: &[u8]) -> bool {
-    let mut space = io::buffer();
-    let n = os::arg(place, &mut space);
-    check::same(&space[..n], word)
+pub fn is_word(rt: HostRuntime, place: usize, word: &[u8]) -> bool {
+    let mut space = [0; LONGEST];
+    let n = word_at(rt, place, &mut space);
+    &space[..n] == word
 }
 
 // A digit's value; 10 where the byte is no digit.
@@ -78,15 +108,15 @@ fn spelled(text: &[u8]) -> Amount {
 }
 
 // The number at a place of the words, at most so large; the default where there are not so many words.
-pub fn number(place: usize, words: usize, default: u64, most: u64) -> Amount {
+pub fn number(rt: HostRuntime, place: usize, words: usize, default: u64, most: u64) -> Amount {
     if words <= place {
         return Amount {
             value: default,
             is_number: true,
         };
     }
-    let mut space = io::buffer();
-    let n = os::arg(place, &mut space);
+    let mut space = [0; LONGEST];
+    let n = word_at(rt, place, &mut space);
     let found = spelled(&space[..n]);
     let value = found.value;
     Amount {
@@ -96,17 +126,17 @@ pub fn number(place: usize, words: usize, default: u64, most: u64) -> Amount {
 }
 
 // Reads the file that the word at a place names.
-pub fn read(place: usize, out: &mut [u8]) -> FileRead
+pub fn read(rt: HostRuntime, place: usize, out: &mut [u8]) -> FileRead
     ensures { IsPrefixLen result.bytes out.new }
 {
-    let mut name = io::buffer();
-    let n = os::arg(place, &mut name);
-    terminal::read_file(&name[..n], out)
+    let mut name = [0; LONGEST];
+    let n = word_at(rt, place, &mut name);
+    terminal::read_file(rt, &name[..n], out)
 }
 
 // Writes the file that the word at a place names.
-pub fn write(place: usize, content: &[u8]) -> bool {
-    let mut name = io::buffer();
-    let n = os::arg(place, &mut name);
-    terminal::write_file(&name[..n], content)
+pub fn write(rt: HostRuntime, place: usize, content: &[u8]) -> bool {
+    let mut name = [0; LONGEST];
+    let n = word_at(rt, place, &mut name);
+    terminal::write_file(rt, &name[..n], content)
 }

@@ -8,7 +8,7 @@ use terminal::say;
 use wording::strip_words::{Word, say_word};
 
 // The line of the word at a byte of the strip.
-fn say_line(strip: &[u8], at: usize)
+fn say_line(rt: HostRuntime, strip: &[u8], at: usize)
     requires { at < 44808 }
 {
     let w = Word {
@@ -19,18 +19,18 @@ fn say_line(strip: &[u8], at: usize)
         value: two_at(strip, at + 4),
         target: two_at(strip, at + 6),
     };
-    io::print_decimal(libc::STDOUT_FILENO, (at / Strip::WORD) as u64);
-    say(b" ");
-    say_word(w);
-    say(b"\n");
+    let _ = rt.print(at / Strip::WORD);
+    say(rt, b" ");
+    say_word(rt, w);
+    say(rt, b"\n");
 }
 
 // Every word of an accepted strip.
-pub fn say_strip(strip: &[u8]) {
+pub fn say_strip(rt: HostRuntime, strip: &[u8]) {
     let end = least(strip.len(), Strip::LONGEST);
     let mut at = 0;
     while at < end {
-        say_line(strip, at);
+        say_line(rt, strip, at);
         at += Strip::WORD;
     }
 }

@@ -26,18 +26,19 @@ pub fn least(a: usize, b: usize) -> usize
 }
 
 // The first bytes, at most so many.
-fn say_bytes(bytes: &[u8], most: usize) {
+fn say_bytes(rt: HostRuntime, bytes: &[u8], most: usize) {
     let end = least(most, bytes.len());
     if end == 0 {
-        say(b" none");
+        say(rt, b" none");
     }
     let mut at = 0;
     while at < end {
-        say(b" ");
-        io::print_hex(libc::STDOUT_FILENO, byte_at(bytes, at) as u64, 2);
+        say(rt, b" ");
+        let byte = byte_at(bytes, at);
+        let _ = print!(rt; "{byte:02x}");
         at += 1;
     }
-    say(b"\n");
+    say(rt, b"\n");
 }
 
 // The place so many bytes before, or the start.
@@ -48,32 +49,32 @@ fn shortly_before(at: usize) -> usize
 }
 
 // The bytes around a place.
-fn say_around(file: &[u8], place: usize) {
+fn say_around(rt: HostRuntime, file: &[u8], place: usize) {
     let at = least(place, file.len());
     let from = shortly_before(at);
-    say(b"bytes before:");
-    say_bytes(&file[from..], at - from);
-    say(b"bytes there:");
-    say_bytes(&file[at..], AROUND);
+    say(rt, b"bytes before:");
+    say_bytes(rt, &file[from..], at - from);
+    say(rt, b"bytes there:");
+    say_bytes(rt, &file[at..], AROUND);
 }
 
 // The words for a refusal. The first file is the book or the strip.
-pub fn explain(answer: Answer, first: &[u8], board: &[u8]) {
-    say_name(answer.number);
+pub fn explain(rt: HostRuntime, answer: Answer, first: &[u8], board: &[u8]) {
+    say_name(rt, answer.number);
     if answer.file == 2 {
-        say(b" at word ");
+        say(rt, b" at word ");
     } else {
-        say(b" at byte ");
+        say(rt, b" at byte ");
     }
-    io::print_decimal(libc::STDOUT_FILENO, answer.place as u64);
-    say(b" of the ");
-    say_file(answer.file);
-    say(b": ");
-    say_reason(answer.number);
-    say(b"\n");
+    let _ = rt.print(answer.place);
+    say(rt, b" of the ");
+    say_file(rt, answer.file);
+    say(rt, b": ");
+    say_reason(rt, answer.number);
+    say(rt, b"\n");
     if answer.file == 3 {
-        say_around(board, byte_of(answer));
+        say_around(rt, board, byte_of(answer));
     } else {
-        say_around(first, byte_of(answer));
+        say_around(rt, first, byte_of(answer));
     }
 }

@@ -1,4 +1,5 @@
 -- What the display reads back of a run: the length that the answer gives is that of what is written, and the part of that length is the board.
+use Rattle.std.specs.Prelude.{if◌then◌else◌}
 use Prim.Native.Nat.{ℕ, ◌≤◌, ◌<◌}
 use native.Mathlib.Omega.{arith}
 use mathlib.Core.Path.{◌≡◌, refl, sym, ap, ap₂, subst, ◌∙◌}
@@ -8,7 +9,6 @@ use lib.ListN.{length, take, drop, length-append}
 use lib.Seq.{take_at, length-take-le}
 use lib.Dec.{ltb}
 use borrow.Author.Tests.{lt-ltb}
-use Rattle.meaning.specs.Basics.{if◌then◌else◌}
 use Rattle.meaning.specs.Facts.{Kind, Board, longest_board}
 use Rattle.meaning.specs.Firing.{run}
 use Rattle.files.specs.Numbers as N

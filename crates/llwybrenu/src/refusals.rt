@@ -5,9 +5,9 @@ use kinds::Kinds;
 use terminal::say;
 
 // The first file is the book or the strip.
-pub fn refuse(answer: Answer, first: &[u8], board: &[u8]) {
+pub fn refuse(rt: HostRuntime, answer: Answer, first: &[u8], board: &[u8]) {
     let mut line = [0; 64];
     let end = screen::text(answer, Kinds::none(), board, &mut line);
-    say(&line[..end]);
-    explain(answer, first, board);
+    say(rt, &line[..end]);
+    explain(rt, answer, first, board);
 }

@@ -20,33 +20,41 @@ fn firings(limit: u64) -> u16 {
 }
 
 // What a run came to: the board is written first, so that nothing is shown where that fails.
-fn settle(answer: Answer, kinds: Kinds, first: &[u8], board: &[u8], after: &[u8], target: usize) {
+fn settle(
+    rt: HostRuntime,
+    answer: Answer,
+    kinds: Kinds,
+    first: &[u8],
+    board: &[u8],
+    after: &[u8],
+    target: usize,
+) {
     if answer.number < 20 {
-        refuse(answer, first, board);
+        refuse(rt, answer, first, board);
         return;
     }
     let n = io::count(answer.length as isize, after);
-    if target != 0 && !write(target, &after[..n]) {
+    if target != 0 && !write(rt, target, &after[..n]) {
         return;
     }
     let mut text = [0; Screen::BYTES];
     let end = screen::text(answer, kinds, &after[..n], &mut text);
-    say(&text[..end]);
+    say(rt, &text[..end]);
 }
 
 // run BOOK BOARD [LIMIT] [-o FILE]
-pub fn run(words: usize, target: usize) -> bool {
-    let limit = number(4, words, LIMIT, 65535);
+pub fn run(rt: HostRuntime, words: usize, target: usize) -> bool {
+    let limit = number(rt, 4, words, LIMIT, 65535);
     if words < 4 || 5 < words || !limit.is_number {
         return false;
     }
     let mut book = [0; Book::LONGEST + 1];
-    let book_read = read(2, &mut book);
+    let book_read = read(rt, 2, &mut book);
     if !book_read.is_read {
         return true;
     }
     let mut board = [0; Board::LONGEST + 1];
-    let board_read = read(3, &mut board);
+    let board_read = read(rt, 3, &mut board);
     if !board_read.is_read {
         return true;
     }
@@ -60,6 +68,7 @@ pub fn run(words: usize, target: usize) -> bool {
         &mut after,
     );
     settle(
+        rt,
         answer,
         book::kinds(&book[..n]),
         &book[..n],
@@ -71,19 +80,19 @@ pub fn run(words: usize, target: usize) -> bool {
 }
 
 // run-strip STRIP BOARD [LIMIT] [ALLOWANCE] [-o FILE]
-pub fn run_strip(words: usize, target: usize) -> bool {
-    let limit = number(4, words, LIMIT, 65535);
-    let allowance = number(5, words, ALLOWANCE, u64::MAX);
+pub fn run_strip(rt: HostRuntime, words: usize, target: usize) -> bool {
+    let limit = number(rt, 4, words, LIMIT, 65535);
+    let allowance = number(rt, 5, words, ALLOWANCE, u64::MAX);
     if words < 4 || 6 < words || !limit.is_number || !allowance.is_number {
         return false;
     }
     let mut strip = [0; Strip::LONGEST + 1];
-    let strip_read = read(2, &mut strip);
+    let strip_read = read(rt, 2, &mut strip);
     if !strip_read.is_read {
         return true;
     }
     let mut board = [0; Board::LONGEST + 1];
-    let board_read = read(3, &mut board);
+    let board_read = read(rt, 3, &mut board);
     if !board_read.is_read {
         return true;
     }
@@ -98,6 +107,7 @@ pub fn run_strip(words: usize, target: usize) -> bool {
         &mut after,
     );
     settle(
+        rt,
         answer,
         strip::kinds(&strip[..n]),
         &strip[..n],

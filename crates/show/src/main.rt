@@ -1,4 +1,6 @@
 // The display program of document 01. Beside it stand the hat book, its board, and what it must print.
-fn main() {
-    display::show();
+#![tactic(auto)]
+
+fn main(rt: HostRuntime) {
+    display::show(rt);
 }

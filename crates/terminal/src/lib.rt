@@ -1,50 +1,74 @@
 // Files by name, for the programs. Why a file can't be read or written is said on standard error, with its name.
+#![tactic(auto)]
+
 ghost use Rattle.std.specs.Prelude.{◌≤◌, length};
 ghost use Rattle.io.specs.Counts.{IsPrefixLen};
+
+use std::fs::{File, OpenOptions};
+use std::io::{Error, ErrorKind, Read, Result, Write};
+use std::{fs, str};
+
+// ---- what failed
+
+// An error's text without its number, which the library puts behind it.
+fn say_error(rt: HostRuntime, error: Error) {
+    let Ok(text) = format!(in rt.alloc(); "{error}") else {
+        let _ = rt.eprint(error);
+        return;
+    };
+    let words = text.as_str();
+    match words.split_once(" (os error ") {
+        Some((reason, _)) => {
+            let _ = rt.eprint(reason);
+        }
+        None => {
+            let _ = rt.eprint(words);
+        }
+    }
+}
+
+// Writes a line to standard error: what failed, a colon and why.
+fn fail(rt: HostRuntime, what: &[u8], error: Error) {
+    let _ = Print::write_all(&rt.stderr(), what);
+    let _ = rt.eprint(": ");
+    say_error(rt, error);
+    let _ = rt.eprint("\n");
+}
+
+// A file's name as the library takes it: as text.
+fn path(name: &[u8]) -> Result<&str> {
+    match str::from_utf8(name) {
+        Ok(text) => Ok(text),
+        Err(_) => Err(Error::new(ErrorKind::InvalidInput, "the name is not UTF-8")),
+    }
+}
 
 // ---- reading
 
 // How many bytes of a file were read; or it could not be read.
-#[derive(Drop)]
+#[derive(Clone, Copy)]
 pub struct FileRead {
     pub bytes: usize,
     pub is_read: bool,
 }
 
-// Reads once more, behind the bytes that are there.
-fn read_more(fd: i32, out: &mut [u8], done: usize) -> FileRead
-    requires { done ≤ length out.old }
-    ensures { result.bytes ≤ length out.new }
-{
-    let rest = &mut out[done..];
-    let got = libc::read(fd, rest);
-    FileRead {
-        bytes: done + io::count(got, rest),
-        is_read: 0 <= got,
-    }
-}
-
 // Reads to the end of the file, or until the bytes are full. A read of nothing is the end.
-fn read_on(fd: i32, out: &mut [u8]) -> FileRead
+fn read_on(rt: HostRuntime, name: &[u8], mut file: File, out: &mut [u8]) -> FileRead
     ensures { IsPrefixLen result.bytes out.new }
 {
     let mut done = 0;
     while done < out.len() {
-        let more = read_more(fd, out, done);
-        let bytes = more.bytes;
-        if !more.is_read {
-            return FileRead {
-                bytes: done,
-                is_read: false,
-            };
+        match file.read(&mut out[done..]) {
+            Ok(0) => break,
+            Ok(n) => done += n,
+            Err(error) => {
+                fail(rt, name, error);
+                return FileRead {
+                    bytes: done,
+                    is_read: false,
+                };
+            }
         }
-        if bytes <= done {
-            return FileRead {
-                bytes: done,
-                is_read: true,
-            };
-        }
-        done = bytes;
     }
     FileRead {
         bytes: done,
@@ -52,58 +76,66 @@ fn read_on(fd: i32, out: &mut [u8]) -> FileRead
     }
 }
 
+// Opens a file to be read.
+fn open_read(rt: HostRuntime, name: &[u8]) -> Result<File> {
+    File::open(&rt, path(name)?)
+}
+
 // Reads a file from its start, as much of it as there is room for. Where it is missing and may be, it is empty.
-fn read(name: &[u8], may_miss: bool, out: &mut [u8]) -> FileRead
+fn read(rt: HostRuntime, name: &[u8], may_miss: bool, out: &mut [u8]) -> FileRead
     ensures { IsPrefixLen result.bytes out.new }
 {
-    let fd = os::open_read(name);
-    if fd < 0 {
-        let is_missing = os::errno() == libc::ENOENT;
-        if may_miss && is_missing {
-            return FileRead {
+    match open_read(rt, name) {
+        Ok(file) => read_on(rt, name, file, out),
+        Err(error) => {
+            let is_empty = may_miss && error.kind() == ErrorKind::NotFound;
+            if !is_empty {
+                fail(rt, name, error);
+            }
+            FileRead {
                 bytes: 0,
-                is_read: true,
-            };
+                is_read: is_empty,
+            }
         }
-        os::fail(name);
-        return FileRead {
-            bytes: 0,
-            is_read: false,
-        };
     }
-    let found = read_on(fd, out);
-    if !found.is_read {
-        os::fail(name);
-    }
-    libc::close(fd);
-    found
 }
 
 // Reads a file.
-pub fn read_file(name: &[u8], out: &mut [u8]) -> FileRead
+pub fn read_file(rt: HostRuntime, name: &[u8], out: &mut [u8]) -> FileRead
     ensures { IsPrefixLen result.bytes out.new }
 {
-    read(name, false, out)
+    read(rt, name, false, out)
 }
 
 // Reads a file; a missing one is empty.
-pub fn read_or_empty(name: &[u8], out: &mut [u8]) -> FileRead
+pub fn read_or_empty(rt: HostRuntime, name: &[u8], out: &mut [u8]) -> FileRead
     ensures { IsPrefixLen result.bytes out.new }
 {
-    read(name, true, out)
+    read(rt, name, true, out)
 }
 
 // ---- writing: a file is written whole or not at all
 
+// Opens a file that is there, to be written.
+fn open_update(rt: HostRuntime, name: &[u8]) -> Result<File> {
+    OpenOptions::new()
+        .read(true)
+        .write(true)
+        .open(&rt, path(name)?)
+}
+
 // May the file be replaced? It may if it is missing, or a plain file, which the system can bring to its disk; so a device never is.
-fn may_replace(name: &[u8]) -> bool {
-    let fd = os::open_update(name);
-    if fd < 0 {
-        return os::errno() == libc::ENOENT;
+fn may_replace(rt: HostRuntime, name: &[u8]) -> Result<()> {
+    match open_update(rt, name) {
+        Ok(file) => file.sync_all(),
+        Err(error) => {
+            if error.kind() == ErrorKind::NotFound {
+                Ok(())
+            } else {
+                Err(error)
+            }
+        }
     }
-    let is_plain = libc::fsync(fd) == 0;
-    libc::close(fd);
-    is_plain
 }
 
 // Puts the name with `.new` behind it at the start of the bytes, and gives its length; 0 where there is no room.
@@ -116,7 +148,8 @@ fn new_name(name: &[u8], out: &mut [u8]) -> usize
     if out.len() - 4 < name.len() {
         return 0;
     }
-    let n = bytes::copy(name, out);
+    let n = name.len();
+    out[..n].copy_from_slice(name);
     out[n] = b'.';
     out[n + 1] = b'n';
     out[n + 2] = b'e';
@@ -124,36 +157,66 @@ fn new_name(name: &[u8], out: &mut [u8]) -> usize
     n + 4
 }
 
-// Makes a file and writes it to the disk. A name that is taken is left as it is.
-fn write_new(name: &[u8], content: &[u8]) -> bool {
-    let fd = os::create(name);
-    if fd < 0 {
-        os::fail(name);
-        return false;
-    }
-    let is_written = io::write_all(fd, content) && libc::fsync(fd) == 0;
-    if !is_written {
-        os::fail(name);
-        os::unlink(name);
-    }
-    libc::close(fd);
-    is_written
+// Makes a file. A name that is taken is left as it is.
+fn create(rt: HostRuntime, name: &[u8]) -> Result<File> {
+    OpenOptions::new()
+        .write(true)
+        .create_new(true)
+        .open(&rt, path(name)?)
 }
 
+// Writes to the file and brings it to the disk.
+fn put(mut file: File, content: &[u8]) -> Result<()> {
+    file.write_all(content)?;
+    file.sync_all()
+}
+
+// Removes a file; it may be missing.
+fn remove(rt: HostRuntime, name: &[u8]) {
+    if let Ok(text) = path(name) {
+        let _ = fs::remove_file(&rt, text);
+    }
+}
+
+// Makes a file and writes it to the disk. A name that is taken is left as it is.
+fn write_new(rt: HostRuntime, name: &[u8], content: &[u8]) -> bool {
+    let file = match create(rt, name) {
+        Ok(file) => file,
+        Err(error) => {
+            fail(rt, name, error);
+            return false;
+        }
+    };
+    if let Err(error) = put(file, content) {
+        fail(rt, name, error);
+        remove(rt, name);
+        return false;
+    }
+    true
+}
+
+// Gives a file another name, in the place of the file that has it.
+fn rename(rt: HostRuntime, from: &[u8], to: &[u8]) -> Result<()> {
+    fs::rename(&rt, path(from)?, path(to)?)
+}
+
+// The longest name that the system takes has 4095 bytes.
+const LONGEST_NAME: usize = 4096;
+
 // Writes a file: under a new name first, which then takes the file's place. A pulled stick leaves the old file or the new one, and no torn one.
-pub fn write_file(name: &[u8], content: &[u8]) -> bool {
-    if !may_replace(name) {
-        os::fail(name);
+pub fn write_file(rt: HostRuntime, name: &[u8], content: &[u8]) -> bool {
+    if let Err(error) = may_replace(rt, name) {
+        fail(rt, name, error);
         return false;
     }
-    let mut space = [0; libc::PATH_MAX + 4];
+    let mut space = [0; LONGEST_NAME + 4];
     let n = new_name(name, &mut space);
-    if !write_new(&space[..n], content) {
+    if !write_new(rt, &space[..n], content) {
         return false;
     }
-    if os::rename(&space[..n], name) != 0 {
-        os::fail(name);
-        os::unlink(&space[..n]);
+    if let Err(error) = rename(rt, &space[..n], name) {
+        fail(rt, name, error);
+        remove(rt, &space[..n]);
         return false;
     }
     true
@@ -162,8 +225,8 @@ pub fn write_file(name: &[u8], content: &[u8]) -> bool {
 // ---- standard output
 
 // Writes a text to standard output.
-pub fn say(text: &[u8]) {
-    if !io::write_all(libc::STDOUT_FILENO, text) {
-        os::fail(b"standard output");
+pub fn say(rt: HostRuntime, text: &[u8]) {
+    if let Err(error) = Print::write_all(&rt.stdout(), text) {
+        fail(rt, b"standard output", error);
     }
 }
