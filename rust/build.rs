@@ -1,4 +1,4 @@
-// Links the engine's static library: LLWYBRENU_LIB names its folder, else it is where `rt staticlib engine` writes it.
+// Links the engine's static library: LLWYBRENU_LIB names its folder, else it is where `./library` writes it.
 use std::{env, path::PathBuf};
 
 fn main() {
