@@ -39,7 +39,7 @@ room_for_kind size left before f z e =
     let word : (fields && few && not before.others) ≡ true = rw z at (and-true (word_is_good size before f) (may_be_last left f) e).0 in
     ltb-true before.kinds most_kinds (and-true fields few (and-true (fields && few) (not before.others) word).0).1
 
--- ---- stripKinds of a KIND, and of a word that is none
+-- ---- `strip_kinds` of a KIND, and of a word that is none
 
 one_kind : (f : Fields) (words : List Word) → eqb f.code 0 ≡ true → strip_kinds (word_of f ∷ words) ≡ record { card = eqb f.a 0; arity = f.b } ∷ strip_kinds words
 one_kind f words z = rw z
