@@ -1,1 +1,4 @@
+pub mod Numbered
+pub mod Refused
+pub mod RefusedLaws
 pub mod Shown

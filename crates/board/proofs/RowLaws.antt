@@ -1,21 +1,21 @@
 -- The fields of a row, judged where they stand: one law for each answer of `row_fields`.
 use Prim.Native.Nat.{ℕ, zero, suc, ◌+◌, ◌*◌, ◌≤◌, ◌<◌}
 use mathlib.Core.Path.{◌≡◌, refl, sym, ap, ◌∙◌}
-use mathlib.Core.Bool.{Bool, true, false, not}
+use mathlib.Core.Bool.{Bool, true, false}
 use mathlib.Core.List.{List, [], ◌∷◌}
+use Rattle.std.specs.Prelude.{Ok, Err}
 use native.Mathlib.Nat.{add-zero}
 use native.Mathlib.Numerals.{add-one, add-two}
 use native.Mathlib.Omega.{arith}
 use lib.ListN.{length, get_or, drop}
 use lib.Seq.{drop-cons}
-use borrow.Author.Tests.{not-true, not-false}
 use Rattle.meaning.specs.Facts.{Kind, arity_of}
 use Rattle.files.specs.Numbers.{Refusal, CUT, FIELD}
 use Rattle.files.specs.InPlace.{byte_at, two_at, many_at}
 use Rattle.files.specs.Judge.{Judged, stop, demand}
 use Rattle.files.specs.Board.{is_of_class, numbers}
+use Rattle.answers.specs.declared.Reason.TheVariants as W
 use Rattle.board.specs.Says.{RowSays}
-use Rattle.board.specs.declared.RowFields.TheVariants as F
 
 -- ---- what a test leads to
 
@@ -50,34 +50,31 @@ numbers-whole n (suc m) file p next h =
 
 -- ---- the answers
 
+-- a row opens with the kind
+abbrev Opens : List ℕ → ℕ → Type 0
+Opens rest kind = (0 < length rest) × ((d : ℕ) → kind ≡ get_or rest 0 d)
+
 module _ (kinds : List Kind) (card : Bool) where
-  pub no_kind_lem : (rest : List ℕ) → length rest < 1 → RowSays kinds card rest F.Cut
-  no_kind_lem [] h = record { fits = tt; says = λ n at next. refl }
-  no_kind_lem (x ∷ rest) h = let z : ⊥ = omega arith in absurd z
-
-  pub wrong_kind : (rest : List ℕ) (r : Bool) → 1 ≤ length rest → r ≡ is_of_class kinds card (get_or rest 0 0) → not r ≡ true → RowSays kinds card rest F.Field
-  wrong_kind [] r h e t = let z : ⊥ = omega arith in absurd z
-  wrong_kind (x ∷ rest) r h e t = record {
-    fits = tt;
-    says = λ n at next. demand-false (is_of_class kinds card x) FIELD at _ (sym e ∙ not-true r t);
-  }
-
-  pub too_short : (rest : List ℕ) (r : Bool) (a : ℕ) → 1 ≤ length rest → r ≡ is_of_class kinds card (get_or rest 0 0) → not r ≡ false
-      → a ≡ arity_of kinds (get_or rest 0 0) → length rest < 1 + 2 * a → RowSays kinds card rest F.Cut
-  too_short [] r a h e t p l = let z : ⊥ = omega arith in absurd z
-  too_short (x ∷ rest) r a h e t p l = record {
+  pub too_short : (rest : List ℕ) (kind : ℕ) (r : Bool) (a : ℕ) → Opens rest kind → r ≡ is_of_class kinds card kind → r ≡ true
+      → a ≡ arity_of kinds kind → length rest < 1 + 2 * a → RowSays kinds card rest (Err W.Cut)
+  too_short [] kind r a h e t p l = let z : ⊥ = omega arith in absurd z
+  too_short (x ∷ rest) kind r a h e t p l = record {
     fits = tt;
     says = λ n at next.
-        demand-true (is_of_class kinds card x) FIELD at _ (sym e ∙ not-false r t) ∙ numbers_cut n (arity_of kinds x) rest _ (omega arith);
+        let same : kind ≡ x = h.1 0 in
+        demand-true (is_of_class kinds card x) FIELD at _ (rw same at (sym e ∙ t))
+        ∙ numbers_cut n (arity_of kinds x) rest _ (omega (arith, rw same at p));
   }
 
-  pub whole : (rest : List ℕ) (r : Bool) (a : ℕ) → 1 ≤ length rest → r ≡ is_of_class kinds card (get_or rest 0 0) → not r ≡ false
-      → a ≡ arity_of kinds (get_or rest 0 0) → 1 + 2 * a ≤ length rest → RowSays kinds card rest (F.Bytes (1 + 2 * a))
-  whole [] r a h e t p l = let z : ⊥ = omega arith in absurd z
-  whole (x ∷ rest) r a h e t p l = record {
+  pub whole : (rest : List ℕ) (kind : ℕ) (r : Bool) (a : ℕ) → Opens rest kind → r ≡ is_of_class kinds card kind → r ≡ true
+      → a ≡ arity_of kinds kind → 1 + 2 * a ≤ length rest → RowSays kinds card rest (Ok (1 + 2 * a))
+  whole [] kind r a h e t p l = let z : ⊥ = omega arith in absurd z
+  whole (x ∷ rest) kind r a h e t p l = record {
     fits = l;
     says = λ n at next.
-        demand-true (is_of_class kinds card x) FIELD at _ (sym e ∙ not-false r t)
-        ∙ numbers-whole n (arity_of kinds x) (x ∷ rest) 1 (λ vs more. next (record { kind = x; numbers = vs }) more) (omega arith)
-        ∙ rw p;
+        let same : kind ≡ x = h.1 0 in
+        let here : a ≡ arity_of kinds x = rw same at p in
+        demand-true (is_of_class kinds card x) FIELD at _ (rw same at (sym e ∙ t))
+        ∙ numbers-whole n (arity_of kinds x) (x ∷ rest) 1 (λ vs more. next (record { kind = x; numbers = vs }) more) (omega (arith, here))
+        ∙ rw here;
   }

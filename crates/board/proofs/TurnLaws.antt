@@ -1,19 +1,25 @@
 -- The loop over records: what is read so far and what is left give the judgement of the whole file. One law for each end of `check_board`.
 use Prim.Native.Nat.{ℕ, zero, suc, ◌+◌, ◌-◌, ◌≤◌, ◌<◌}
-use mathlib.Core.Path.{◌≡◌, refl, sym, ap, ◌∙◌, subst}
+use mathlib.Core.Path.{◌≡◌, refl, sym, ap, ◌∙◌}
 use mathlib.Core.List.{List, [], ◌∷◌, ◌++◌}
 use mathlib.Core.Option.{none, some}
 use native.Mathlib.Omega.{arith}
 use lib.ListN.{length, take, drop, length-drop, length-append}
+use lib.Seq.{take_all}
+use Rattle.std.specs.Prelude.{Result, Ok, Err}
 use Rattle.meaning.specs.Facts.{Kind, Fact, Board}
-use Rattle.files.specs.Numbers.{CUT, MARK, PLACE, MANY, FIELD, TRAIL}
+use Rattle.files.specs.Numbers.{TRAIL}
+use Rattle.files.specs.Numbers as N
 use Rattle.files.specs.InPlace.{fact_at}
 use Rattle.files.specs.Judge.{Verdict, Judged, told, after_record, at_end, judge}
 use Rattle.files.specs.Board.{board_record, empty_board, judge_board}
-use Rattle.board.specs.Says.{RecordSays, record_says, record_fits, with_card, with_notice}
-use Rattle.board.specs.declared.BoardRecord.{BoardRecord}
-use Rattle.board.specs.declared.BoardRecord.TheVariants as R
-use Rattle.board.proofs.RecordLaws.{slice_from}
+use Rattle.answers.specs.Refused.{about, told_by}
+use Rattle.answers.specs.declared.Reason.{Reason}
+use Rattle.answers.specs.declared.Reason.TheVariants as W
+use Rattle.answers.specs.declared.File.TheVariants as F
+use Rattle.board.specs.Says.{told_at, RecordSays, record_says, with_card, with_notice}
+use Rattle.board.specs.declared.Record.{Record}
+use Rattle.board.specs.declared.Record.TheVariants as R
 
 -- so many cards and notices are read, `rest` is left of the file, and to go on from there is to judge the file
 pub record Turn (kinds : List Kind) (file rest : List ℕ) (cards notices : ℕ) : Type 0 where
@@ -36,6 +42,10 @@ turn_start kinds file = record {
   notices_are_lem = refl;
   same = refl;
 }
+
+-- a slice from m on is what is left after m
+slice_from : (m : ℕ) (rest : List ℕ) → take (length rest - m) (drop m rest) ≡ drop m rest
+slice_from m rest = take_all (length rest - m) (drop m rest) (omega (arith, length-drop m rest))
 
 one_more_lem : {A : Type 0} (l : List A) (a : A) (n : ℕ) → length l ≡ n → length (l ++ (a ∷ [])) ≡ n + 1
 one_more_lem l a n e = omega (arith, length-append l (a ∷ []))
@@ -70,72 +80,40 @@ module _ (kinds : List Kind) (file rest : List ℕ) (cards notices : ℕ) (t : T
     same = ap (λ (k : ℕ). from k board (drop m rest)) (sym z) ∙ e;
   })
 
-  module _ (r : BoardRecord) (s : RecordSays kinds rest cards notices r) where
-    -- to go on from the answer on the record is to judge the file
-    after : (q : BoardRecord) → r ≡ q
-        → after_record (length file) (record_says kinds (length file) (length file - length rest) t.board rest q) (λ board more. from t.turns board more) ≡ judge_board kinds file
-    unfolding judge
-    after q e =
-        subst (λ (q : BoardRecord). after_record (length file) (record_says kinds (length file) (length file - length rest) t.board rest q) (λ board more. from t.turns board more) ≡ judge_board kinds file) e
-        (ap (λ (j : Judged Board). after_record (length file) j (λ board more. from t.turns board more)) (sym (s.says (length file) t.board t.cards_are_lem t.notices_are_lem))
-        ∙ t.same)
+  -- to go on from the answer on the record is to judge the file
+  after : (r : Result Record Reason) → RecordSays kinds rest cards notices r
+      → after_record (length file) (record_says kinds (length file) (length file - length rest) t.board rest r) (λ board more. from t.turns board more) ≡ judge_board kinds file
+  unfolding judge
+  after r s =
+      ap (λ (j : Judged Board). after_record (length file) j (λ board more. from t.turns board more)) (sym (s.says (length file) t.board t.cards_are_lem t.notices_are_lem))
+      ∙ t.same
 
-    fits : (q : BoardRecord) → r ≡ q → record_fits rest q
-    fits q e = subst (record_fits rest) e s.fits
+  pub card_read : (m : ℕ) → RecordSays kinds rest cards notices (Ok (R.Card m)) → Turn kinds file (take (length rest - m) (drop m rest)) (cards + 1) notices
+  card_read m s =
+      let f : Fact = (fact_at (drop 2 rest) kinds 0).value in
+      after-row t.turns m (cards + 1) notices (with_card t.board f) refl s.fits (omega arith)
+      (one_more_lem t.board.cards f cards t.cards_are_lem) t.notices_are_lem (after (Ok (R.Card m)) s)
 
-    shorter : (m : ℕ) → (2 ≤ m) × (m ≤ length rest) → length (take (length rest - m) (drop m rest)) < length rest
-    shorter m h = omega (arith, ap length (slice_from m rest), length-drop m rest)
+  pub notice_read : (m : ℕ) → RecordSays kinds rest cards notices (Ok (R.Notice m)) → Turn kinds file (take (length rest - m) (drop m rest)) cards (notices + 1)
+  notice_read m s =
+      let f : Fact = (fact_at (drop 2 rest) kinds 0).value in
+      after-row t.turns m cards (notices + 1) (with_notice t.board f) refl s.fits (omega arith)
+      t.cards_are_lem (one_more_lem t.board.notices f notices t.notices_are_lem) (after (Ok (R.Notice m)) s)
 
-    -- ---- a card
+  -- ---- the ends
 
-    pub card_within : (m : ℕ) → r ≡ R.Card m → m ≤ length rest
-    card_within m e = (fits (R.Card m) e).1
+  pub on_refused : (why : Reason) → RecordSays kinds rest cards notices (Err why)
+      → told_by (Err (record { file = F.Board; reason = why; place = told_at (length file) (length file - length rest) why })) ≡ about N.board (told (judge_board kinds file))
+  on_refused why s = ap (λ (v : Verdict Board). about N.board (told v)) (after (Err why) s)
 
-    pub card_shorter : (m : ℕ) → r ≡ R.Card m → length (take (length rest - m) (drop m rest)) < length rest
-    card_shorter m e = shorter m (fits (R.Card m) e)
+  pub on-end : RecordSays kinds rest cards notices (Ok R.End) → length rest ≡ 2 → told_by (Ok tt) ≡ about N.board (told (judge_board kinds file))
+  on-end s l =
+      ap (about N.board) (end-accepted (length file) t.board (drop 2 rest) (omega (arith, length-drop 2 rest)) ∙ ap told (after (Ok R.End) s))
 
-    pub card_read : (m : ℕ) → r ≡ R.Card m → Turn kinds file (take (length rest - m) (drop m rest)) (cards + 1) notices
-    card_read m e =
-        let f : Fact = (fact_at (drop 2 rest) kinds 0).value in
-        after-row t.turns m (cards + 1) notices (with_card t.board f) refl (fits (R.Card m) e) (omega arith)
-        (one_more_lem t.board.cards f cards t.cards_are_lem) t.notices_are_lem (after (R.Card m) e)
-
-    -- ---- a notice
-
-    pub notice_within : (m : ℕ) → r ≡ R.Notice m → m ≤ length rest
-    notice_within m e = (fits (R.Notice m) e).1
-
-    pub notice_shorter : (m : ℕ) → r ≡ R.Notice m → length (take (length rest - m) (drop m rest)) < length rest
-    notice_shorter m e = shorter m (fits (R.Notice m) e)
-
-    pub notice_read : (m : ℕ) → r ≡ R.Notice m → Turn kinds file (take (length rest - m) (drop m rest)) cards (notices + 1)
-    notice_read m e =
-        let f : Fact = (fact_at (drop 2 rest) kinds 0).value in
-        after-row t.turns m cards (notices + 1) (with_notice t.board f) refl (fits (R.Notice m) e) (omega arith)
-        t.cards_are_lem (one_more_lem t.board.notices f notices t.notices_are_lem) (after (R.Notice m) e)
-
-    -- ---- the ends
-
-    pub on_cut : r ≡ R.Cut → some (CUT, length file) ≡ told (judge_board kinds file)
-    on_cut e = ap told (after R.Cut e)
-
-    pub on-mark : r ≡ R.Mark → some (MARK, length file - length rest) ≡ told (judge_board kinds file)
-    on-mark e = ap told (after R.Mark e)
-
-    pub on_place : r ≡ R.Place → some (PLACE, length file - length rest) ≡ told (judge_board kinds file)
-    on_place e = ap told (after R.Place e)
-
-    pub on-many : r ≡ R.Many → some (MANY, length file - length rest) ≡ told (judge_board kinds file)
-    on-many e = ap told (after R.Many e)
-
-    pub on_field : r ≡ R.Field → some (FIELD, length file - length rest) ≡ told (judge_board kinds file)
-    on_field e = ap told (after R.Field e)
-
-    pub on-end : r ≡ R.End → length rest ≡ 2 → none ≡ told (judge_board kinds file)
-    on-end e l = end-accepted (length file) t.board (drop 2 rest) (omega (arith, length-drop 2 rest)) ∙ ap told (after R.End e)
-
-    pub on_trail : r ≡ R.End → (length rest ≡ 2 → ⊥) → some (TRAIL, length file - length rest + 2) ≡ told (judge_board kinds file)
-    on_trail e l =
-        ap (λ (k : ℕ). some (TRAIL, k)) (after_en (length file) rest (fits R.End e) (omega (arith, t.counts)))
-        ∙ end_trailed (length file) t.board (drop 2 rest) (omega (arith, fits R.End e, length-drop 2 rest))
-        ∙ ap told (after R.End e)
+  pub on_trail : RecordSays kinds rest cards notices (Ok R.End) → (length rest ≡ 2 → ⊥)
+      → told_by (Err (record { file = F.Board; reason = W.Trail; place = length file - length rest + 2 })) ≡ about N.board (told (judge_board kinds file))
+  on_trail s l =
+      ap (about N.board)
+      (ap (λ (k : ℕ). some (TRAIL, k)) (after_en (length file) rest s.fits (omega (arith, t.counts)))
+      ∙ end_trailed (length file) t.board (drop 2 rest) (omega (arith, s.fits, length-drop 2 rest))
+      ∙ ap told (after (Ok R.End) s))

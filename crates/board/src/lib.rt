@@ -2,14 +2,15 @@
 #![tactic(auto)]
 
 ghost use Rattle.std.specs.Prelude.{◌≡◌};
+ghost use Rattle.files.specs.Numbers as N;
 ghost use Rattle.files.specs.Judge.{told};
-ghost use Rattle.files.specs.Entries.{tells_nothing};
 ghost use Rattle.files.specs.Board.{judge_board};
 ghost use Rattle.kinds.specs.Listed.{kinds_of};
-ghost use Rattle.board.specs.Told.{board_told};
-ghost use Rattle.board.specs.Says.{RowSays, RecordSays};
+ghost use Rattle.answers.specs.Refused.{about, told_by};
+ghost use Rattle.answers.specs.declared.File.TheVariants as F;
+ghost use Rattle.board.specs.Says.{told_at, RowSays, RecordSays};
 
-use fields::starts_with;
+use answers::{File, Reason, Refusal};
 use kinds::Kinds;
 
 // The home of a board's sizes and marks.
@@ -30,139 +31,98 @@ impl Board {
     pub const EN: [u8; 2] = *b"en";
 }
 
-// What a file is judged to be: a board, or refused for a reason at a place.
+// One record: a card or a notice of so many bytes, or the end.
 #[derive(Clone, Copy)]
-pub enum BoardChecked {
-    Accepted,
-    Cut(usize),
-    Mark(usize),
-    Place(usize),
-    Many(usize),
-    Field(usize),
-    Trail(usize),
-}
-
-// The fields of a row: how many bytes they are, or why they are refused.
-#[derive(Clone, Copy)]
-enum RowFields {
-    Bytes(usize),
-    Cut,
-    Field,
-}
-
-// One record: a card or a notice of so many bytes, the end, or why it is refused.
-#[derive(Clone, Copy)]
-enum BoardRecord {
+enum Record {
     Card(usize),
     Notice(usize),
     End,
-    Cut,
-    Mark,
-    Place,
-    Many,
-    Field,
 }
 
-// Judges the fields of a row of the class: its kind, then its numbers.
-fn row_fields(kinds: Kinds, card: bool, rest: &[u8]) -> RowFields
+// How many bytes the fields of a row of the class are: its kind, then its numbers.
+fn row_fields(kinds: Kinds, card: bool, rest: &[u8]) -> Result<usize, Reason>
     ensures { RowSays (kinds_of kinds) card rest.now result }
 {
-    if rest.len() < 1 {
-        return RowFields::Cut;
-    }
-    let kind = rest[0];
+    let Some(&kind) = rest.first() else {
+        return Err(Reason::Cut);
+    };
     if !kinds.is_of_class(card, kind) {
-        return RowFields::Field;
+        return Err(Reason::Field);
     }
-    let end = 1 + 2 * (kinds.arity_of(kind) as usize);
+    let end = 1 + 2 * usize::from(kinds.arity_of(kind));
     if rest.len() < end {
-        return RowFields::Cut;
+        return Err(Reason::Cut);
     }
-    RowFields::Bytes(end)
+    Ok(end)
 }
 
 // Judges the record at the start of what is left, after so many cards and notices.
-fn board_record(kinds: Kinds, rest: &[u8], cards: usize, notices: usize) -> BoardRecord
+fn board_record(kinds: Kinds, rest: &[u8], cards: usize, notices: usize) -> Result<Record, Reason>
     ensures { RecordSays (kinds_of kinds) rest.now cards notices result }
 {
-    if rest.len() < 2 {
-        return BoardRecord::Cut;
-    }
-    let fields = &rest[2..];
-    if starts_with(rest, &Board::CA) {
-        if 0 < notices {
-            return BoardRecord::Place;
+    let Some((mark, fields)) = rest.split_first_chunk::<2>() else {
+        return Err(Reason::Cut);
+    };
+    match *mark {
+        Board::CA => {
+            if 0 < notices {
+                return Err(Reason::Place);
+            }
+            if Board::CARDS <= cards {
+                return Err(Reason::Many);
+            }
+            let size = row_fields(kinds, true, fields)?;
+            Ok(Record::Card(2 + size))
         }
-        if Board::CARDS <= cards {
-            return BoardRecord::Many;
+        Board::NO => {
+            if Board::NOTICES <= notices {
+                return Err(Reason::Many);
+            }
+            let size = row_fields(kinds, false, fields)?;
+            Ok(Record::Notice(2 + size))
         }
-        return match row_fields(kinds, true, fields) {
-            RowFields::Bytes(m) => BoardRecord::Card(2 + m),
-            RowFields::Cut => BoardRecord::Cut,
-            RowFields::Field => BoardRecord::Field,
-        };
+        Board::EN => Ok(Record::End),
+        _ => Err(Reason::Mark),
     }
-    if starts_with(rest, &Board::NO) {
-        if Board::NOTICES <= notices {
-            return BoardRecord::Many;
-        }
-        return match row_fields(kinds, false, fields) {
-            RowFields::Bytes(m) => BoardRecord::Notice(2 + m),
-            RowFields::Cut => BoardRecord::Cut,
-            RowFields::Field => BoardRecord::Field,
-        };
+}
+
+// The refusal of a board of so many bytes for a reason that the record at a place gives.
+fn refusal(reason: Reason, at: usize, end: usize) -> Refusal
+    ensures { result ≡ record { file = F.Board; reason = reason; place = told_at end at reason } }
+{
+    let place = match reason {
+        Reason::Cut => end,
+        _ => at,
+    };
+    Refusal {
+        file: File::Board,
+        reason,
+        place,
     }
-    if starts_with(rest, &Board::EN) {
-        return BoardRecord::End;
-    }
-    BoardRecord::Mark
 }
 
 // Judges a file as a board of those kinds, record by record; what is left of the file is handed on.
-pub fn check_board(kinds: Kinds, board: &[u8]) -> BoardChecked
-    ensures { board_told result ≡ told (judge_board (kinds_of kinds) board.now) }
+pub fn check_board(kinds: Kinds, board: &[u8]) -> Result<(), Refusal>
+    ensures { told_by result ≡ about N.board (told (judge_board (kinds_of kinds) board.now)) }
 {
     let n = board.len();
     let mut rest = board;
     let mut cards = 0;
     let mut notices = 0;
-    loop {
+    'records: loop {
         let at = n - rest.len();
         match board_record(kinds, rest, cards, notices) {
-            BoardRecord::Card(m) => {
+            Ok(Record::Card(size)) => {
                 cards += 1;
-                rest = &rest[m..];
+                rest = &rest[size..];
             }
-            BoardRecord::Notice(m) => {
+            Ok(Record::Notice(size)) => {
                 notices += 1;
-                rest = &rest[m..];
+                rest = &rest[size..];
             }
-            BoardRecord::End => {
-                if rest.len() == 2 {
-                    return BoardChecked::Accepted;
-                }
-                return BoardChecked::Trail(at + 2);
-            }
-            BoardRecord::Cut => return BoardChecked::Cut(n),
-            BoardRecord::Mark => return BoardChecked::Mark(at),
-            BoardRecord::Place => return BoardChecked::Place(at),
-            BoardRecord::Many => return BoardChecked::Many(at),
-            BoardRecord::Field => return BoardChecked::Field(at),
+            Ok(Record::End) if rest.len() == 2 => return Ok(()),
+            Ok(Record::End) => return Err(refusal(Reason::Trail, at + 2, n)),
+            Err(reason) => return Err(refusal(reason, at, n)),
         }
-    }
-}
-
-// Does the check accept the board?
-pub fn is_accepted(checked: BoardChecked) -> bool
-    ensures { result ≡ tells_nothing (board_told checked) }
-{
-    match checked {
-        BoardChecked::Accepted => true,
-        BoardChecked::Cut(_) => false,
-        BoardChecked::Mark(_) => false,
-        BoardChecked::Place(_) => false,
-        BoardChecked::Many(_) => false,
-        BoardChecked::Field(_) => false,
-        BoardChecked::Trail(_) => false,
     }
 }

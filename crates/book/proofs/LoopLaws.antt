@@ -1,168 +1,116 @@
--- A whole record, by its mark, and record after record.
-use Prim.Native.Nat.{ℕ, zero, suc, ◌+◌, ◌-◌, ◌≤◌, ◌<◌}
+-- A whole record, and record after record.
+use Prim.Native.Nat.{ℕ, zero, suc, ◌-◌, ◌≤◌, ◌<◌}
 use mathlib.Core.Path.{◌≡◌, refl, sym, ap, ◌∙◌, subst}
-use mathlib.Core.Bool.{Bool, true, false, not}
+use mathlib.Core.Bool.{Bool, true, false}
+use mathlib.Core.Option.{none}
 use mathlib.Core.List.{List, [], ◌∷◌}
 use native.Mathlib.Omega.{arith}
-use lib.ListN.{length, take, drop, length-drop}
-use borrow.Author.Tests.{not-true, not-false}
+use lib.ListN.{length, drop, length-drop}
+use Rattle.std.specs.Prelude.{Result, Ok, Err, Option, Some, None}
 use Rattle.files.specs.Numbers.{PLACE}
-use Rattle.files.specs.Marks.{KD, RU, BA, TE, HE, SW, EN, is_mark}
-use Rattle.files.specs.Judge.{Verdict, accepted, refused, Judged, told, demand, after_record, judge}
+use Rattle.files.specs.Numbers as N
+use Rattle.files.specs.Judge.{Verdict, accepted, refused, Judged, stop, told, demand, byte, after_record, judge}
 use Rattle.files.specs.InPlace.{byte_at}
-use Rattle.files.specs.Book.{Mark, mark_of, Reading, empty_reading, may_stand_here, fields, after_place, book_record, book_of, judge_book}
+use Rattle.files.specs.Book.{Mark, other, mark_of, Reading, empty_reading, may_stand_here, fields, after_place, book_record, book_of, judge_book}
+use Rattle.answers.specs.Refused.{reason_of, about, told_by}
+use Rattle.answers.specs.declared.Reason.{Reason}
+use Rattle.answers.specs.declared.Reason.TheVariants as R
+use Rattle.answers.specs.declared.Refusal.{Refusal}
 use Rattle.kinds.specs.declared.Kinds.{Kinds}
 use Rattle.kinds.specs.Listed.{kinds_of, kinds_from, no_kinds}
-use Rattle.book.specs.Told.{book_told}
-use Rattle.book.specs.Holds.{with_rules, Holds, mark_is, MayStand, lack_told, Lacks, Led, FieldsRead, RecordReads}
-use Rattle.book.specs.declared.BookChecked.{BookChecked}
-use Rattle.book.specs.declared.BookChecked.TheVariants as C
+use Rattle.book.specs.Left.{place, of_book}
+use Rattle.book.specs.Reads.{Ends}
+use Rattle.book.specs.Holds.{with_rules, Holds, mark_is, MayStand, lack_told, Lacks, Went, Led, FieldsLed, RecordReads}
 use Rattle.book.specs.declared.Book.{Book}
 use Rattle.book.specs.declared.Mark as D
-use Rattle.book.specs.declared.Mark.TheVariants as M
-use Rattle.book.specs.declared.Lack.{Lack}
-use Rattle.book.specs.declared.Lack.TheVariants as L
-use Rattle.book.specs.declared.Took.{Took}
-use Rattle.book.specs.declared.Took.TheVariants as T
 use Rattle.book.specs.declared.Next.{Next}
+use Rattle.book.specs.declared.left.Rest.{Rest}
 use Rattle.book.proofs.SetLaws.{in_none}
-use Rattle.book.proofs.FieldLaws.{byte-at, demand-true, demand-false, ends, part_from}
 
--- ---- the mark
-
-module _ (rest : List ℕ) where
-  abbrev starts : List ℕ → Bool
-  starts mark = is_mark mark (byte_at rest 0) (byte_at rest 1)
-
-  abbrev its_mark : Mark
-  its_mark = mark_of (byte_at rest 0) (byte_at rest 1)
-
-  module _ (is_kd : Bool) (q0 : is_kd ≡ starts KD) where
-    pub mark_kd : is_kd ≡ true → mark_is M.Kd ≡ its_mark
-    mark_kd t = let e : starts KD ≡ true = sym q0 ∙ t in rw e
-
-    module _ (n0 : is_kd ≡ false) (is_ru : Bool) (q1 : is_ru ≡ starts RU) where
-      e0 : starts KD ≡ false
-      e0 = sym q0 ∙ n0
-
-      pub mark_ru : is_ru ≡ true → mark_is M.Ru ≡ its_mark
-      mark_ru t = let e : starts RU ≡ true = sym q1 ∙ t in rw (e0, e)
-
-      module _ (n1 : is_ru ≡ false) (is_ba : Bool) (q2 : is_ba ≡ starts BA) where
-        e1 : starts RU ≡ false
-        e1 = sym q1 ∙ n1
-
-        pub mark_ba : is_ba ≡ true → mark_is M.Ba ≡ its_mark
-        mark_ba t = let e : starts BA ≡ true = sym q2 ∙ t in rw (e0, e1, e)
-
-        module _ (n2 : is_ba ≡ false) (is_te : Bool) (q3 : is_te ≡ starts TE) where
-          e2 : starts BA ≡ false
-          e2 = sym q2 ∙ n2
-
-          pub mark_te : is_te ≡ true → mark_is M.Te ≡ its_mark
-          mark_te t = let e : starts TE ≡ true = sym q3 ∙ t in rw (e0, e1, e2, e)
-
-          module _ (n3 : is_te ≡ false) (is_he : Bool) (q4 : is_he ≡ starts HE) where
-            e3 : starts TE ≡ false
-            e3 = sym q3 ∙ n3
-
-            pub mark_he : is_he ≡ true → mark_is M.He ≡ its_mark
-            mark_he t = let e : starts HE ≡ true = sym q4 ∙ t in rw (e0, e1, e2, e3, e)
-
-            module _ (n4 : is_he ≡ false) (is_sw : Bool) (q5 : is_sw ≡ starts SW) where
-              e4 : starts HE ≡ false
-              e4 = sym q4 ∙ n4
-
-              pub mark_sw : is_sw ≡ true → mark_is M.Sw ≡ its_mark
-              mark_sw t = let e : starts SW ≡ true = sym q5 ∙ t in rw (e0, e1, e2, e3, e4, e)
-
-              module _ (n5 : is_sw ≡ false) (is_en : Bool) (q6 : is_en ≡ starts EN) where
-                e5 : starts SW ≡ false
-                e5 = sym q5 ∙ n5
-
-                pub mark_en : is_en ≡ true → mark_is M.En ≡ its_mark
-                mark_en t = let e : starts EN ≡ true = sym q6 ∙ t in rw (e0, e1, e2, e3, e4, e5, e)
-
-                pub mark-other : is_en ≡ false → mark_is M.Other ≡ its_mark
-                mark-other t = let e : starts EN ≡ false = sym q6 ∙ t in rw (e0, e1, e2, e3, e4, e5, e)
-
--- ---- the fields of a record with the mark
-
-pub fields-of : (known mark : D.Mark) → mark ≡ known → (book : Book) (rest : List ℕ) (end at : ℕ) (next : Next) → FieldsRead (mark_is known) book rest end at next
-    → FieldsRead (mark_is mark) book rest end at next
-fields-of known mark e book rest end at next y = rw e y
-
-pub opens_of : (known mark : D.Mark) → mark ≡ known → (book : Book) (at : ℕ) (next : Next)
-    → ((rest : List ℕ) (end : ℕ) → FieldsRead (mark_is known) book rest end at next) → (rest : List ℕ) (end : ℕ) → FieldsRead (mark_is mark) book rest end at next
-opens_of known mark e book at next y rest end = fields-of known mark e book rest end at next (y rest end)
-
-pub fields-other : (mark : D.Mark) → mark ≡ M.Other → (book : Book) (rest : List ℕ) (end at : ℕ)
-    → FieldsRead (mark_is mark) book rest end at (record { took = T.Told (C.Mark at); book = book })
-fields-other mark e book rest end at = rw e (record { reads = λ l r i p. ends end refl })
+-- a refusal ends the reading
+ends : (end : ℕ) {judged : Judged Reading} (why : Reason) (place : ℕ) (e : Refusal) → e ≡ of_book why place → judged ≡ stop (reason_of why) place → Ends end judged (Err e)
+ends end why place e q j next =
+    ap (λ (x : Refusal). told_by (Err x)) q ∙ sym (ap (λ (x : Judged Reading). about N.book (told (after_record end x next))) j)
 
 -- ---- a record
 
-module _ (book : Book) (rest : List ℕ) (end : ℕ) where
-  pub record_cut : length rest < 2 → RecordReads book rest end (record { took = T.Told (C.Cut end); book = book })
+module _ (book : Book) (rest : Rest) (e : Refusal) where
+  pub record_cut : length rest.bytes.now < 2 → e ≡ of_book R.Cut rest.end → RecordReads book rest (Err e)
   unfolding book_record
-  record_cut h = by rest h
+  record_cut h q = record { reads = λ r i. ends rest.end R.Cut rest.end e q (short r rest.bytes.now h) }
     where
-      by : (rest : List ℕ) → length rest < 2 → RecordReads book rest end (record { took = T.Told (C.Cut end); book = book })
-      by [] h = record { reads = λ r i. ends end refl }
-      by (a ∷ []) h = record { reads = λ r i. ends end refl }
-      by (a ∷ b ∷ l) h = let bad : ⊥ = omega arith in absurd bad
+      short : (r : Reading) (l : List ℕ) → length l < 2 → book_record rest.end r l ≡ stop N.CUT rest.end
+      short r [] h = refl
+      short r (a ∷ []) h = refl
+      short r (a ∷ b ∷ l) h = absurd (omega arith)
 
-  module _ (l : 2 ≤ length rest) (at : ℕ) (w : at + length rest ≡ end) (mark : D.Mark) (m : mark_is mark ≡ mark_of (byte_at rest 0) (byte_at rest 1)) where
-    to_place : (r : Reading)
-        → book_record end r rest ≡ demand (may_stand_here (mark_is mark) r.now) PLACE at (after_place end (mark_is mark) at r (drop 2 rest))
-    unfolding book_record
-    to_place r =
-        let p : end - length rest ≡ at = omega arith in
-        byte-at end rest _ 0 (omega arith) ∙ byte-at end rest _ 1 l ∙ rw (p, ← m)
+module _ (book : Book) (rest : Rest) (l : 2 ≤ length rest.bytes.now) where
+  abbrev its_mark : Mark
+  its_mark = mark_of (byte_at rest.bytes.now 0) (byte_at rest.bytes.now 1)
 
-    module _ (may : Bool) (y : MayStand book mark may) where
-      pub record_place : not may ≡ true → RecordReads book rest end (record { took = T.Told (C.Place at); book = book })
-      record_place e =
-          record { reads = λ r i. ends end (to_place r ∙ demand-false _ PLACE at _ (sym (y.says r i) ∙ not-true may e)) }
+  to_place : (mark : Mark) → mark ≡ its_mark → (r : Reading)
+      → book_record rest.end r rest.bytes.now
+      ≡ demand (may_stand_here mark r.now) PLACE (place rest) (after_place rest.end mark (place rest) r (drop 2 rest.bytes.now))
+  unfolding book_record
+  to_place mark m r = rw m (two rest.bytes.now l)
+    where
+      two : (l : List ℕ) → 2 ≤ length l
+          → (byte rest.end l λ a l₁. byte rest.end l₁ λ b l₂. demand (may_stand_here (mark_of a b) r.now) PLACE (rest.end - length l) (after_place rest.end (mark_of a b) (rest.end - length l) r l₂))
+          ≡ demand (may_stand_here (mark_of (byte_at l 0) (byte_at l 1)) r.now) PLACE (rest.end - length l)
+          (after_place rest.end (mark_of (byte_at l 0) (byte_at l 1)) (rest.end - length l) r (drop 2 l))
+      two [] h = absurd (omega arith)
+      two (a ∷ []) h = absurd (omega arith)
+      two (a ∷ b ∷ l) h = refl
 
-      module _ (e : not may ≡ false) (lack : Lack) (z : Lacks book mark lack) where
-        to_fields : (known : Lack) → lack ≡ known → (r : Reading) → Holds book r
-            → book_record end r rest ≡ lack_told known at (fields end (mark_is mark) at r (drop 2 rest))
-        to_fields known k r i =
-            to_place r ∙ demand-true _ PLACE at _ (sym (y.says r i) ∙ not-false may e) ∙ z.says r i end at (drop 2 rest)
-            ∙ ap (λ (x : Lack). lack_told x at (fields end (mark_is mark) at r (drop 2 rest))) k
+  pub record_mark : other ≡ its_mark → (e : Refusal) → e ≡ of_book R.Mark (place rest) → RecordReads book rest (Err e)
+  record_mark m e q = record { reads = λ r i. ends rest.end R.Mark (place rest) e q (to_place other m r) }
 
-        pub record_nocard : lack ≡ L.Card → RecordReads book rest end (record { took = T.Told (C.Nocard at); book = book })
-        record_nocard k = record { reads = λ r i. ends end (to_fields L.Card k r i) }
+  module _ (mark : D.Mark) (m : mark_is mark ≡ its_mark) where
+    pub record_place : MayStand book mark false → (e : Refusal) → e ≡ of_book R.Place (place rest) → RecordReads book rest (Err e)
+    record_place y e q = record {
+      reads = λ r i.
+          ends rest.end R.Place (place rest) e q
+          (to_place (mark_is mark) m r ∙ ap (λ (b : Bool). demand b PLACE (place rest) (after_place rest.end (mark_is mark) (place rest) r (drop 2 rest.bytes.now))) (sym (y.says r i)));
+    }
 
-        pub record_bare : lack ≡ L.Atom → RecordReads book rest end (record { took = T.Told (C.Bare at); book = book })
-        record_bare k = record { reads = λ r i. ends end (to_fields L.Atom k r i) }
+    module _ (y : MayStand book mark true) (lack : Option Reason) (z : Lacks book mark lack) where
+      to_fields : (r : Reading) → Holds book r
+          → book_record rest.end r rest.bytes.now ≡ lack_told lack (place rest) (fields rest.end (mark_is mark) (place rest) r (drop 2 rest.bytes.now))
+      to_fields r i =
+          to_place (mark_is mark) m r
+          ∙ ap (λ (b : Bool). demand b PLACE (place rest) (after_place rest.end (mark_is mark) (place rest) r (drop 2 rest.bytes.now))) (sym (y.says r i))
+          ∙ z.says r i rest.end (place rest) (drop 2 rest.bytes.now)
 
-        pub record_fields : lack ≡ L.Nothing → (next : Next) → FieldsRead (mark_is mark) book rest end at next → RecordReads book rest end next
-        record_fields k next x = record {
-          reads = λ r i.
-              subst (λ (j : Judged Reading). Led rest end j next.book next.took) (sym (to_fields L.Nothing k r i))
-              (x.reads l r i (sym (y.says r i) ∙ not-false may e));
-        }
+    pub record_lacks : MayStand book mark true → (why : Reason) → Lacks book mark (Some why) → (e : Refusal) → e ≡ of_book why (place rest) → RecordReads book rest (Err e)
+    record_lacks y why z e q = record { reads = λ r i. ends rest.end why (place rest) e q (to_fields y (Some why) z r i) }
+
+    pub record_fields : MayStand book mark true → Lacks book mark None → (result : Result (Option Next) Refusal)
+        → FieldsLed (mark_is mark) book rest result → RecordReads book rest result
+    record_fields y z result x = record {
+      reads = λ r i. subst (λ (j : Judged Reading). Led rest j result) (sym (to_fields y None z r i)) (x.reads r i (sym (y.says r i)));
+    }
+
+pub ruleset records = (record_cut, record_mark, record_place, record_lacks, record_fields)
 
 -- ---- record after record
 
--- `rest` is left of the file, the state holds what is read, and to go on from there is to judge the file
-pub record Turn (file rest : List ℕ) (book : Book) : Type 0 where
+-- the state holds what is read, and to go on from there is to judge the file
+pub record Turn (file : List ℕ) (rest : Rest) (book : Book) : Type 0 where
   pub read : Reading
   pub turns : ℕ
-  pub enough : length rest ≤ turns
-  pub within : length rest ≤ length file
+  pub enough : length rest.bytes.now ≤ turns
+  pub whole : rest.end ≡ length file
   pub holds : Holds book read
-  pub same : book_of (judge (length file) (book_record (length file)) (suc turns) read rest) ≡ judge_book file
+  pub same : book_of (judge rest.end (book_record rest.end) (suc turns) read rest.bytes.now) ≡ judge_book file
 
-pub turn_start : (file : List ℕ) (kinds : Kinds) → kinds ≡ no_kinds → (book : Book) → book ≡ with_rules kinds 0 → Turn file file book
+pub turn_starts : (file : List ℕ) (rest : Rest) → rest.bytes.now ≡ file → rest.end ≡ length file
+    → (kinds : Kinds) → kinds ≡ no_kinds → (book : Book) → book ≡ with_rules kinds 0 → Turn file rest book
 unfolding judge_book kinds_of kinds_from
-turn_start file kinds k book e = rw (e, k) (record {
+turn_starts file rest b n kinds k book e = rw (e, k) (record {
   read = empty_reading;
   turns = length file;
-  enough = omega arith;
-  within = omega arith;
+  enough = omega (arith, ap length b);
+  whole = n;
   holds = record {
     few = omega arith;
     classes = refl;
@@ -178,7 +126,7 @@ turn_start file kinds k book e = rw (e, k) (record {
     own = λ v u. in_none v;
     bound = λ v u. in_none v;
   };
-  same = refl;
+  same = rw (b, n);
 })
 
 -- what is told of the book is told of the reading
@@ -186,44 +134,56 @@ told_book : (v : Verdict Reading) → told v ≡ told (book_of v)
 told_book (accepted r) = refl
 told_book (refused why place) = refl
 
-module _ (file rest : List ℕ) (book : Book) (t : Turn file rest book) (end : ℕ) (n : end ≡ length file) (next : Next) (y : RecordReads book rest end next) where
+module _ (file : List ℕ) (rest : Rest) (book : Book) (t : Turn file rest book) where
   abbrev judged : Judged Reading
-  judged = book_record (length file) t.read rest
-
-  led : (took : Took) → next.took ≡ took → Led rest (length file) judged next.book took
-  led took e = subst (λ (k : ℕ). Led rest k (book_record k t.read rest) next.book took) n (subst (Led rest end (book_record end t.read rest) next.book) e (y.reads t.read t.holds))
+  judged = book_record rest.end t.read rest.bytes.now
 
   abbrev on : Reading → List ℕ → Verdict Reading
-  on r l = judge (length file) (book_record (length file)) t.turns r l
+  on r l = judge rest.end (book_record rest.end) t.turns r l
 
   -- one record further
-  after : book_of (after_record (length file) judged on) ≡ judge_book file
+  after : book_of (after_record rest.end judged on) ≡ judge_book file
   unfolding judge
   after = t.same
 
-  pub turn_told : (checked : BookChecked) → next.took ≡ T.Told checked → book_told checked ≡ told (judge_book file)
-  turn_told checked e = led (T.Told checked) e on ∙ told_book (after_record (length file) judged on) ∙ ap told after
+  ended : (checked : Result (Unit {0}) Refusal) → Ends rest.end judged checked → told_by checked ≡ about N.book (told (judge_book file))
+  ended checked y = y on ∙ ap (about N.book) (told_book (after_record rest.end judged on) ∙ ap told after)
 
-  module _ (m : ℕ) (e : next.took ≡ T.Bytes m) where
-    pub turn_within : m ≤ length rest
-    turn_within = (led (T.Bytes m) e).within
+  pub turn_refused : (e : Refusal) → RecordReads book rest (Err e) → told_by (Err e) ≡ about N.book (told (judge_book file))
+  turn_refused e y = ended (Err e) (y.reads t.read t.holds)
 
-    pub turn_less : length (take (length rest - m) (drop m rest)) < length rest
-    turn_less = omega (arith, (led (T.Bytes m) e).some, turn_within, ap length (part_from m rest), length-drop m rest)
+  module _ (o : Option Next) (y : RecordReads book rest (Ok o)) where
+    pub turn_ended : o ≡ None → none ≡ about N.book (told (judge_book file))
+    turn_ended e = ended (Ok tt) (subst (λ (x : Option Next). Led rest judged (Ok x)) e (y.reads t.read t.holds))
 
-    further : (turns : ℕ) → t.turns ≡ turns → Turn file (drop m rest) next.book
-    further zero z = let bad : ⊥ = omega (arith, (led (T.Bytes m) e).some, turn_within, t.enough) in absurd bad
-    further (suc turns) z = let w = led (T.Bytes m) e in record {
-      read = w.reading;
-      turns = turns;
-      enough = omega (arith, w.some, turn_within, t.enough, length-drop m rest);
-      within = omega (arith, t.within, length-drop m rest);
-      holds = w.holds;
-      same =
-          ap (λ (k : ℕ). book_of (judge (length file) (book_record (length file)) k w.reading (drop m rest))) (sym z)
-          ∙ ap (λ (j : Judged Reading). book_of (after_record (length file) j on)) (sym w.goes)
-          ∙ after;
-    }
+    module _ (next : Next) (e : o ≡ Some next) where
+      went : Went rest judged next
+      went = subst (λ (x : Option Next). Led rest judged (Ok x)) e (y.reads t.read t.holds)
 
-    pub turn_next : Turn file (take (length rest - m) (drop m rest)) next.book
-    turn_next = rw (part_from m rest) (further t.turns refl)
+      pub turn_within : next.bytes ≤ length rest.bytes.now
+      turn_within = went.within
+
+      module _ (later : Rest) (b : later.bytes.now ≡ drop next.bytes rest.bytes.now) (n : later.end ≡ rest.end) where
+        pub turn_less : length later.bytes.now < length rest.bytes.now
+        turn_less = omega (arith, went.some, went.within, ap length b, length-drop next.bytes rest.bytes.now)
+
+        further : (turns : ℕ) → t.turns ≡ turns → Turn file later next.book
+        further zero z = absurd (omega (arith, went.some, went.within, t.enough))
+        further (suc turns) z = record {
+          read = went.reading;
+          turns = turns;
+          enough = omega (arith, turn_less, t.enough);
+          whole = n ∙ t.whole;
+          holds = went.holds;
+          same =
+              ap (λ (k : ℕ). book_of (judge k (book_record k) (suc turns) went.reading later.bytes.now)) n
+              ∙ ap (λ (l : List ℕ). book_of (judge rest.end (book_record rest.end) (suc turns) went.reading l)) b
+              ∙ ap (λ (k : ℕ). book_of (judge rest.end (book_record rest.end) k went.reading (drop next.bytes rest.bytes.now))) (sym z)
+              ∙ ap (λ (j : Judged Reading). book_of (after_record rest.end j on)) (sym went.goes)
+              ∙ after;
+        }
+
+        pub turn_goes : Turn file later next.book
+        turn_goes = further t.turns refl
+
+pub ruleset turns = (turn_starts, turn_within, turn_less, turn_goes)

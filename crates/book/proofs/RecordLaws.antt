@@ -1,62 +1,118 @@
--- The records by their marks: MANY, then the fields, and the state with what is read. A law for each `return`.
-use Prim.Native.Nat.{ℕ, ◌+◌, ◌-◌, ◌≤◌, ◌<◌}
+-- The records by their marks: the fields of one are read, and the state with what is read.
+use Prim.Native.Nat.{ℕ, suc, ◌+◌, ◌≤◌, ◌<◌}
 use mathlib.Core.Path.{◌≡◌, refl, sym, ap, ap₂, ◌∙◌, subst}
 use mathlib.Core.Bool.{Bool, true, false, ◌&&◌, ◌||◌, or-false, or_assoc}
-use mathlib.Core.Option.{none, some}
 use mathlib.Core.List.{List, [], ◌∷◌, ◌++◌}
 use native.Mathlib.Omega.{arith}
-use lib.ListN.{length, get_or, drop, set, length-append, length-drop, length-set, get_or-eq_default}
+use lib.ListN.{length, get_or, drop, set, length-set, get_or-eq_default}
+use lib.Seq.{drop-cons}
 use lib.Dec.{eqb, ltb}
-use borrow.Author.Tests.{lt-ltb, le-ltb, ltb-false}
-use Rattle.meaning.specs.Facts.{Kind, no_kind, most_kinds, most_rules, most_sweeps, is_card}
-use Rattle.meaning.specs.Rules.{Term, constant, Atom, Test, Sweep, Rule, occurs_in_terms, occurs_in}
+use borrow.Author.Tests.{lt-ltb, le-leb, ltb-false}
+use Rattle.std.proofs.lemmas.Grind.{common_steps}
+use Rattle.std.specs.Prelude.{Result, Ok, Err}
+use Rattle.meaning.specs.Facts.{Kind, no_kind, most_kinds, most_rules, is_card, arity_of}
+use Rattle.meaning.specs.Rules.{Term, constant, Atom, Test, Sweep, occurs_in_terms, occurs_in}
 use Rattle.meaning.specs.WellFormed.{any_variable}
-use Rattle.files.specs.Numbers.{MANY, TRAIL}
-use Rattle.files.specs.Judge.{Judged, go, told, at_end}
+use Rattle.files.specs.Numbers.{Refusal as Why, MANY, FIELD}
+use Rattle.files.specs.Judge.{Judged, go, demand, byte}
 use Rattle.files.specs.Board.{is_of_class}
 use Rattle.files.specs.InPlace.{comparison_of}
-use Rattle.files.specs.Book.{Open, no_rule, in_rule, in_sweep, Reading, empty_rule, empty_sweep, groups, with_groups, rules_closed, sweep_opened, sweeps_so_far, is_in_rule, may_stand_here, has_card, is_bound, fields, atom}
+use Rattle.files.specs.Book.{Mark, Open, no_rule, in_rule, in_sweep, Reading, empty_rule, groups, with_groups, rules_closed, sweeps_so_far, is_in_rule, may_stand_here, has_card, is_bound, most_in_group, fields, terms, atom}
 use Rattle.files.specs.Book as B
+use Rattle.answers.specs.declared.Refusal.{Refusal}
 use Rattle.kinds.specs.declared.Kinds.{Kinds}
 use Rattle.kinds.specs.Listed.{kinds_of, with_kind}
-use Rattle.kinds.specs.KindLaws.{with-room, with-listed}
+use Rattle.kinds.specs.KindLaws.{kinds-length, with-room, with-listed}
 use Rattle.book.specs.Sets.{all_variables}
-use Rattle.book.specs.Reads.{Ends, Fields, Reads, Marked, Known, AtomReads, kind_fields, KindReads, test_fields, TestReads}
-use Rattle.book.specs.Holds.{with_rules, own_body, Stands, Holds, Most, Led, FieldsRead}
-use Rattle.book.specs.declared.BookChecked.TheVariants as C
+use Rattle.book.specs.Left.{place}
+use Rattle.book.specs.Reads.{Ends, Fields, Reads, Marked, Known, TermsRead, AtomReads, kind_fields, KindReads, test_fields, TestReads}
+use Rattle.book.specs.Holds.{with_rules, own_body, Holds, Most, Takes, FieldsRead}
 use Rattle.book.specs.declared.Book.{Book}
-use Rattle.book.specs.declared.Took.{Took}
-use Rattle.book.specs.declared.Took.TheVariants as T
+use Rattle.book.specs.declared.Next.{Next}
 use Rattle.book.specs.declared.Scan.{Scan}
+use Rattle.book.specs.declared.Variables.{Variables}
+use Rattle.book.specs.declared.left.Rest.{Rest}
 use Rattle.book.proofs.SetLaws.{in_none, in_all}
-use Rattle.book.proofs.FieldLaws.{demand-true, demand-false, ends, count-is}
-use Rattle.book.proofs.StateLaws.{apart, needs_rule, full, roomy}
+
+demand-true : {S : Type 0} (b : Bool) (why : Why) (at : ℕ) (next : Judged S) → b ≡ true → demand b why at next ≡ next
+demand-true b why at next e = rw e
+
+-- the byte at a place, read as a field
+byte_at : (end : ℕ) (bytes : List ℕ) (next : ℕ → List ℕ → Judged Reading) (k : ℕ) → k < length bytes
+    → byte end (drop k bytes) next ≡ next (get_or bytes k 0) (drop (suc k) bytes)
+byte_at end bytes next k h = rw (drop-cons bytes k 0 h)
+
+-- two answers are not one
+apart : {A : Type 0} → false ≡ true → A
+apart e = absurd (cc)
+
+-- what is made of an answer
+abbrev mapped : {A B : Type 0} → (A → B) → Result A Refusal → Result B Refusal
+mapped f (Ok a) = Ok (f a)
+mapped f (Err e) = Err e
+
+-- ---- a value made of what other fields hold
+
+made_of : {A B C : Type 0} (bytes : List ℕ) (end : ℕ) (from : Fields A) (to : Fields B) (size : C → ℕ) (P : C → A → Type 0) (Q : C → B → Type 0) (make : A → B)
+    → ((next : B → List ℕ → Judged Reading) → to next ≡ from (λ a l. next (make a) l)) → ((c : C) (a : A) → P c a → Q c (make a))
+    → (t : Result C Refusal) → Reads bytes end from size P t → Reads bytes end to size Q t
+made_of bytes end from to size P Q make e q (Ok c) f = record {
+  value = make f.value;
+  some = f.some;
+  within = f.within;
+  is = q c f.value f.is;
+  goes = λ next. e next ∙ f.goes (λ a l. next (make a) l);
+}
+made_of bytes end from to size P Q make e q (Err r) f = λ next. subst (λ (j : Judged Reading). Ends end j (Err r)) (sym (e next)) (f (λ a l. next (make a) l))
+
+-- ---- a kind and its terms, a test
+
+pub count_is : (kinds : Kinds) → kinds.count ≤ most_kinds → length (kinds_of kinds) ≡ kinds.count
+count_is kinds h = kinds-length kinds ∙ rw (le-leb kinds.count most_kinds h)
+
+module _ (rest : Rest) (kinds : Kinds) (free known : ℕ) (h : 3 ≤ length rest.bytes.now) where
+  abbrev its_kind : ℕ
+  its_kind = get_or rest.bytes.now 2 0
+
+  pub atom_made : its_kind < kinds.count → (arity : ℕ) → arity ≡ arity_of (kinds_of kinds) its_kind
+      → (r : Result Scan Refusal) → TermsRead rest arity free known r → AtomReads rest kinds free known r
+  atom_made u arity a r y = record {
+    reads = λ few bound b.
+        made_of rest.bytes.now rest.end (terms rest.end bound (place rest) arity (drop 3 rest.bytes.now)) (atom rest.end (kinds_of kinds) bound (place rest) (drop 2 rest.bytes.now)) _ _ _
+        (λ ts. record { kind = its_kind; terms = ts })
+        (λ next.
+        byte_at rest.end rest.bytes.now _ 2 h
+        ∙ demand-true (ltb its_kind (length (kinds_of kinds))) FIELD _ _ (lt-ltb its_kind (length (kinds_of kinds)) (omega (arith, count_is kinds few)))
+        ∙ ap (λ (n : ℕ). terms rest.end bound (place rest) n (drop 3 rest.bytes.now) (λ ts l. next (record { kind = its_kind; terms = ts }) l)) (sym a))
+        (λ s ts q. (refl, q)) r (y.reads bound b);
+  }
+
+pub test_made : (rest : Rest) → 3 ≤ length rest.bytes.now → get_or rest.bytes.now 2 0 ≤ 3 → (free : ℕ)
+    → (r : Result Scan Refusal) → TermsRead rest 2 free free r → TestReads rest free r
+test_made rest h u free r y = record {
+  reads = λ bound b.
+      made_of rest.bytes.now rest.end (terms rest.end bound (place rest) 2 (drop 3 rest.bytes.now)) (test_fields (drop 2 rest.bytes.now) rest.end (place rest) bound) _ _ _
+      (λ ts. (get_or rest.bytes.now 2 0, ts))
+      (λ next. byte_at rest.end rest.bytes.now _ 2 h ∙ demand-true _ FIELD _ _ (le-leb _ _ u))
+      (λ s ts k. tt) r (y.reads bound b);
+}
 
 -- what fields hold is read
-led_by : {A : Type 0} (rest : List ℕ) (end : ℕ) (from : Fields A) (P : A → Type 0) (judged : Judged Reading) (book : Book) (make : A → Reading)
-    → judged ≡ from (λ a l. go (make a) l) → ((a : A) → P a → Holds book (make a)) → (t : Took) → Reads rest end from P t → Led rest end judged book t
-led_by rest end from P judged book make e q (T.Bytes m) f = record {
+led_by : {A C : Type 0} (rest : Rest) (from : Fields A) (size : C → ℕ) (P : C → A → Type 0) (judged : Judged Reading) (make : A → Reading) (book : C → Book)
+    → judged ≡ from (λ a l. go (make a) l) → ((c : C) (a : A) → P c a → Holds (book c) (make a))
+    → (t : Result C Refusal) → Reads rest.bytes.now rest.end from size P t → Takes rest judged (mapped (λ c. record { bytes = size c; book = book c }) t)
+led_by rest from size P judged make book e q (Ok c) f = record {
   reading = make f.value;
   some = f.some;
   within = f.within;
   goes = e ∙ f.goes (λ a l. go (make a) l);
-  holds = q f.value f.is;
+  holds = q c f.value f.is;
 }
-led_by rest end from P judged book make e q (T.Told checked) f = subst (λ (j : Judged Reading). Ends end j checked) (sym e) (f (λ a l. go (make a) l))
+led_by rest from size P judged make book e q (Err r) f = subst (λ (j : Judged Reading). Ends rest.end j (Err r)) (sym e) (f (λ a l. go (make a) l))
 
 -- ---- kd
 
-module _ (book : Book) (rest : List ℕ) (end at : ℕ) where
-  kinds-many : (r : Reading) → Holds book r → length r.kinds ≡ book.kinds.count
-  kinds-many r i = ap length i.kinds ∙ count-is book.kinds i.few
-
-  pub kd_many : most_kinds ≤ book.kinds.count → FieldsRead B.kd book rest end at (record { took = T.Told (C.Many at); book = book })
-  kd_many h = record {
-    reads = λ l r i p.
-        ends end
-        (demand-false (ltb (length r.kinds) most_kinds) MANY at _ (le-ltb (length r.kinds) most_kinds (omega (arith, kinds-many r i))));
-  }
-
+module _ (book : Book) (rest : Rest) where
   -- the state with other kinds
   abbrev with_kinds : Kinds → Book
   with_kinds kinds = record {
@@ -76,26 +132,24 @@ module _ (book : Book) (rest : List ℕ) (end at : ℕ) where
   no_body before after (in_rule rule) p = apart p
   no_body before after (in_sweep rule sweep) p = apart p
 
-  pub kd_takes : book.kinds.count < most_kinds → (class arity : ℕ) → class ≡ get_or rest 2 0 → arity ≡ get_or rest 3 0
-      → (kinds : Kinds) → kinds ≡ with_kind book.kinds class arity → (took : Took) → KindReads rest end at took
-      → FieldsRead B.kd book rest end at (record { took = took; book = with_kinds kinds })
-  kd_takes h class arity c a kinds k took y = record {
+  pub kd_takes : book.kinds.count < most_kinds → (class arity : ℕ) → class ≡ get_or rest.bytes.now 2 0 → arity ≡ get_or rest.bytes.now 3 0
+      → (kinds : Kinds) → kinds ≡ with_kind book.kinds class arity → (t : Result ℕ Refusal) → KindReads rest t
+      → FieldsRead B.kd book rest (mapped (λ m. record { bytes = m; book = with_kinds kinds }) t)
+  kd_takes h class arity c a kinds k t y = record {
     reads = λ l r i p.
-        led_by rest end (kind_fields (drop 2 rest) end at) _ (fields end B.kd at r (drop 2 rest)) (with_kinds kinds) (make r)
-        (demand-true (ltb (length r.kinds) most_kinds) MANY at _ (lt-ltb (length r.kinds) most_kinds (omega (arith, kinds-many r i))))
-        (λ x e. holds r i p x e) took y.reads;
+        led_by rest (kind_fields (drop 2 rest.bytes.now) rest.end (place rest)) _ _ (fields rest.end B.kd (place rest) r (drop 2 rest.bytes.now)) (make r) (λ m. with_kinds kinds)
+        (demand-true (ltb (length r.kinds) most_kinds) MANY (place rest) _
+        (lt-ltb (length r.kinds) most_kinds (omega (arith, ap length i.kinds, count_is book.kinds i.few))))
+        (λ m x e. holds r i p x e) t y.reads;
   }
     where
-      one : Kind
-      one = record { card = eqb class 0; arity = arity }
-
       make : Reading → ℕ × ℕ → Reading
       make r x = record { kinds = r.kinds ++ (record { card = eqb x.0 0; arity = x.1 } ∷ []); rules = r.rules; now = r.now }
 
       more : kinds ≡ record { count = book.kinds.count + 1; class = set book.kinds.class book.kinds.count class; arity = set book.kinds.arity book.kinds.count arity }
       more = k ∙ sym (with-room book.kinds class arity h)
 
-      holds : (r : Reading) → Holds book r → may_stand_here B.kd r.now ≡ true → (x : ℕ × ℕ) → x ≡ (get_or rest 2 0, get_or rest 3 0)
+      holds : (r : Reading) → Holds book r → may_stand_here B.kd r.now ≡ true → (x : ℕ × ℕ) → x ≡ (get_or rest.bytes.now 2 0, get_or rest.bytes.now 3 0)
           → Holds (with_kinds kinds) (make r x)
       holds r i p x e = record {
         few = omega (arith, ap (λ (q : Kinds). q.count) more);
@@ -117,153 +171,24 @@ module _ (book : Book) (rest : List ℕ) (end at : ℕ) where
 
 -- ---- ru
 
-module _ (book : Book) (at : ℕ) where
-  pub ru_many : most_rules ≤ book.rules → (rest : List ℕ) (end : ℕ)
-      → FieldsRead B.ru book rest end at (record { took = T.Told (C.Many at); book = book })
-  ru_many h rest end = record {
-    reads = λ l r i p.
-        ends end
-        (demand-false (ltb (length (rules_closed r.rules r.now)) most_rules) MANY at _
-        (le-ltb (length (rules_closed r.rules r.now)) most_rules (omega (arith, i.rules))));
-  }
-
-  pub ru_takes : book.rules < most_rules → (next : Book) → next ≡ with_rules book.kinds (book.rules + 1) → (rest : List ℕ) (end : ℕ)
-      → FieldsRead B.ru book rest end at (record { took = T.Bytes 2; book = next })
-  ru_takes h next e rest end = rw e (record {
-    reads = λ l r i p. record {
-      reading = record { kinds = r.kinds; rules = rules_closed r.rules r.now; now = in_rule empty_rule };
-      some = omega arith;
-      within = l;
-      goes =
-          demand-true (ltb (length (rules_closed r.rules r.now)) most_rules) MANY at _
-          (lt-ltb (length (rules_closed r.rules r.now)) most_rules (omega (arith, i.rules)));
-      holds = record {
-        few = i.few;
-        classes = i.classes;
-        arities = i.arities;
-        kinds = i.kinds;
-        rules = omega (arith, length-append (rules_closed r.rules r.now) (empty_rule ∷ []), i.rules);
-        stands = (omega arith, refl);
-        body = refl;
-        tests = refl;
-        heads = refl;
-        sweeps = refl;
-        carded = refl;
-        own = λ v u. in_none v;
-        bound = λ v u. in_none v;
-      };
-    };
-  })
-
--- ---- sw
-
--- one rule more, whichever it is
-one_more_lem : (rules : List Rule) (x y : Rule) → length (rules ++ (x ∷ [])) ≡ length (rules ++ (y ∷ []))
-one_more_lem rules x y = length-append rules (x ∷ []) ∙ sym (length-append rules (y ∷ []))
-
-opened-rules : (o : Open) (rules : List Rule) → length (rules_closed rules (sweep_opened o)) ≡ length (rules_closed rules o)
-opened-rules no_rule rules = refl
-opened-rules (in_rule rule) rules = one_more_lem rules _ _
-opened-rules (in_sweep rule sweep) rules = one_more_lem rules _ _
-
-opened_stands : (o : Open) → is_in_rule o ≡ true → (rules sweeps : ℕ) → Stands rules sweeps o → Stands rules (sweeps + 1) (sweep_opened o)
-opened_stands no_rule p rules sweeps s = apart p
-opened_stands (in_rule rule) p rules sweeps s = (s.0, omega arith)
-opened_stands (in_sweep rule sweep) p rules sweeps s = (s.0, omega arith)
-
-opened-groups : (o : Open) → groups (sweep_opened o) ≡ empty_sweep
-opened-groups no_rule = refl
-opened-groups (in_rule rule) = refl
-opened-groups (in_sweep rule sweep) = refl
-
-opened-sweeps : (o : Open) → is_in_rule o ≡ true → sweeps_so_far (sweep_opened o) ≡ sweeps_so_far o + 1
-opened-sweeps no_rule p = apart p
-opened-sweeps (in_rule rule) p = omega arith
-opened-sweeps (in_sweep rule sweep) p = omega (arith, length-append rule.sweeps (sweep ∷ []))
-
-opened-body : (o : Open) → own_body (sweep_opened o) ≡ own_body o
-opened-body no_rule = refl
-opened-body (in_rule rule) = refl
-opened-body (in_sweep rule sweep) = refl
-
-opened_bound : (o : Open) (v : ℕ) → is_bound (sweep_opened o) v ≡ occurs_in v (own_body o)
-opened_bound no_rule v = refl
-opened_bound (in_rule rule) v = or-false (occurs_in v rule.body)
-opened_bound (in_sweep rule sweep) v = or-false (occurs_in v rule.body)
-
-module _ (book : Book) (at : ℕ) where
-  pub sw_many : most_sweeps ≤ book.sweeps → (rest : List ℕ) (end : ℕ)
-      → FieldsRead B.sw book rest end at (record { took = T.Told (C.Many at); book = book })
-  sw_many h rest end = record {
-    reads = λ l r i p.
-        ends end
-        (demand-false (ltb (sweeps_so_far r.now) most_sweeps) MANY at _ (le-ltb (sweeps_so_far r.now) most_sweeps (omega (arith, i.sweeps))));
-  }
-
-  -- the state with a sweep opened
-  abbrev swept : Book
-  swept = record {
-    kinds = book.kinds;
-    rules = book.rules;
-    body = 0;
-    tests = 0;
-    heads = 0;
-    sweeps = book.sweeps + 1;
-    carded = book.carded;
-    own = book.own;
-    bound = book.own;
-  }
-
-  pub sw_takes : book.sweeps < most_sweeps → (rest : List ℕ) (end : ℕ) → FieldsRead B.sw book rest end at (record { took = T.Bytes 2; book = swept })
-  sw_takes h rest end = record {
-    reads = λ l r i p. record {
-      reading = record { kinds = r.kinds; rules = r.rules; now = sweep_opened r.now };
-      some = omega arith;
-      within = l;
-      goes = demand-true (ltb (sweeps_so_far r.now) most_sweeps) MANY at _ (lt-ltb (sweeps_so_far r.now) most_sweeps (omega (arith, i.sweeps)));
-      holds = record {
-        few = i.few;
-        classes = i.classes;
-        arities = i.arities;
-        kinds = i.kinds;
-        rules = opened-rules r.now r.rules ∙ i.rules;
-        stands = opened_stands r.now p book.rules book.sweeps i.stands;
-        body = ap (λ (g : Sweep). length g.body) (opened-groups r.now);
-        tests = ap (λ (g : Sweep). length g.tests) (opened-groups r.now);
-        heads = ap (λ (g : Sweep). length g.heads) (opened-groups r.now);
-        sweeps = opened-sweeps r.now p ∙ ap (λ (n : ℕ). n + 1) i.sweeps;
-        carded = i.carded ∙ ap (has_card r.kinds) (sym (opened-body r.now));
-        own = λ v u. i.own v u ∙ ap (occurs_in v) (sym (opened-body r.now));
-        bound = λ v u. i.own v u ∙ sym (opened_bound r.now v);
-      };
-    };
-  }
+pub ru_takes : (book : Book) (rest : Rest) → book.rules < most_rules
+    → FieldsRead B.ru book rest (Ok (record { bytes = 2; book = with_rules book.kinds (book.rules + 1) }))
+ru_takes book rest h = record {
+  reads = λ l r i p. record {
+    reading = record { kinds = r.kinds; rules = rules_closed r.rules r.now; now = in_rule empty_rule };
+    some = omega arith;
+    within = l;
+    goes =
+        demand-true (ltb (length (rules_closed r.rules r.now)) most_rules) MANY _ _
+        (lt-ltb (length (rules_closed r.rules r.now)) most_rules (omega (arith, i.rules)));
+    holds = grind (arith, common_steps, in_none);
+  };
+}
 
 -- ---- ba, te, he: a group of what is open has one more
 
-module _ (g : Sweep) where
-  regrouped-rules : (rules : List Rule) (o : Open) → length (rules_closed rules (with_groups o g)) ≡ length (rules_closed rules o)
-  regrouped-rules rules no_rule = refl
-  regrouped-rules rules (in_rule rule) = one_more_lem rules _ _
-  regrouped-rules rules (in_sweep rule sweep) = one_more_lem rules _ _
-
-  regrouped_stands : (rules sweeps : ℕ) (o : Open) → Stands rules sweeps o → Stands rules sweeps (with_groups o g)
-  regrouped_stands rules sweeps no_rule s = s
-  regrouped_stands rules sweeps (in_rule rule) s = s
-  regrouped_stands rules sweeps (in_sweep rule sweep) s = s
-
-  regrouped-groups : (o : Open) → is_in_rule o ≡ true → groups (with_groups o g) ≡ g
-  regrouped-groups no_rule p = apart p
-  regrouped-groups (in_rule rule) p = refl
-  regrouped-groups (in_sweep rule sweep) p = refl
-
-  regrouped-sweeps : (o : Open) → sweeps_so_far (with_groups o g) ≡ sweeps_so_far o
-  regrouped-sweeps no_rule = refl
-  regrouped-sweeps (in_rule rule) = refl
-  regrouped-sweeps (in_sweep rule sweep) = refl
-
 -- the state with other groups
-abbrev regrouped : Book → ℕ → ℕ → ℕ → Bool → ℕ → ℕ → Book
+abbrev regrouped : Book → ℕ → ℕ → ℕ → Bool → Variables → Variables → Book
 regrouped book body tests heads carded own bound = record {
   kinds = book.kinds;
   rules = book.rules;
@@ -276,61 +201,24 @@ regrouped book body tests heads carded own bound = record {
   bound = bound;
 }
 
-regrouped-holds : (book : Book) (r : Reading) (g : Sweep) (carded : Bool) (own bound : ℕ) → Holds book r → is_in_rule r.now ≡ true
-    → carded ≡ has_card r.kinds (own_body (with_groups r.now g)) → Marked own (λ v. occurs_in v (own_body (with_groups r.now g)))
-    → Marked bound (is_bound (with_groups r.now g)) → (body tests heads : ℕ) → length g.body ≡ body → length g.tests ≡ tests → length g.heads ≡ heads
-    → Holds (regrouped book body tests heads carded own bound) (record { kinds = r.kinds; rules = r.rules; now = with_groups r.now g })
-regrouped-holds book r g carded own bound i p c o b body tests heads x y z = record {
-  few = i.few;
-  classes = i.classes;
-  arities = i.arities;
-  kinds = i.kinds;
-  rules = regrouped-rules g r.rules r.now ∙ i.rules;
-  stands = regrouped_stands g book.rules book.sweeps r.now i.stands;
-  body = ap (λ (h : Sweep). length h.body) (regrouped-groups g r.now p) ∙ x;
-  tests = ap (λ (h : Sweep). length h.tests) (regrouped-groups g r.now p) ∙ y;
-  heads = ap (λ (h : Sweep). length h.heads) (regrouped-groups g r.now p) ∙ z;
-  sweeps = regrouped-sweeps g r.now ∙ i.sweeps;
-  carded = c;
-  own = o;
-  bound = b;
-}
+-- the groups with other tests and heads, and with one body atom more
+abbrev later : List Test → List Atom → Open → Sweep
+later tests heads o = record { body = (groups o).body; tests = tests; heads = heads }
 
--- the body does not change
-module _ (tests : List Test) (heads : List Atom) where
-  abbrev later : Open → Sweep
-  later o = record { body = (groups o).body; tests = tests; heads = heads }
-
-  later-body : (o : Open) → own_body o ≡ own_body (with_groups o (later o))
-  later-body no_rule = refl
-  later-body (in_rule rule) = refl
-  later-body (in_sweep rule sweep) = refl
-
-  later_bound : (o : Open) (v : ℕ) → is_bound o v ≡ is_bound (with_groups o (later o)) v
-  later_bound no_rule v = refl
-  later_bound (in_rule rule) v = refl
-  later_bound (in_sweep rule sweep) v = refl
-
-  later-holds : (book : Book) (r : Reading) → Holds book r → is_in_rule r.now ≡ true → (m n : ℕ) → length tests ≡ m → length heads ≡ n
-      → Holds (regrouped book book.body m n book.carded book.own book.bound)
-      (record { kinds = r.kinds; rules = r.rules; now = with_groups r.now (later r.now) })
-  later-holds book r i p m n y z =
-      regrouped-holds book r (later r.now) book.carded book.own book.bound i p (i.carded ∙ ap (has_card r.kinds) (later-body r.now))
-      (λ v u. i.own v u ∙ ap (occurs_in v) (later-body r.now)) (λ v u. i.bound v u ∙ later_bound r.now v) book.body m n i.body y z
+abbrev grown : Atom → Open → Sweep
+grown a o = record { body = (groups o).body ++ (a ∷ []); tests = (groups o).tests; heads = (groups o).heads }
 
 -- an atom of the kinds that are read
-atom_reads : (book : Book) (rest : List ℕ) (end at free known : ℕ) (scan : Scan) → AtomReads book.kinds rest end at free known scan
+atom_reads : (book : Book) (rest : Rest) (free known : ℕ) (t : Result Scan Refusal) → AtomReads rest book.kinds free known t
     → (r : Reading) → Holds book r → (bound : ℕ → Bool) → Marked free bound
-    → Reads rest end (atom end r.kinds bound at (drop 2 rest)) (λ a. (a.kind ≡ get_or rest 2 0) × Known known a.terms scan.known) scan.took
-atom_reads book rest end at free known scan y r i bound b =
+    → Reads rest.bytes.now rest.end (atom rest.end r.kinds bound (place rest) (drop 2 rest.bytes.now)) (λ s. s.bytes)
+    (λ s a. (a.kind ≡ get_or rest.bytes.now 2 0) × Known known a.terms s.known.bits) t
+atom_reads book rest free known t y r i bound b =
     subst
     (λ (ks : List Kind).
-    Reads rest end (atom end ks bound at (drop 2 rest)) (λ a. (a.kind ≡ get_or rest 2 0) × Known known a.terms scan.known) scan.took)
+    Reads rest.bytes.now rest.end (atom rest.end ks bound (place rest) (drop 2 rest.bytes.now)) (λ s. s.bytes)
+    (λ s a. (a.kind ≡ get_or rest.bytes.now 2 0) × Known known a.terms s.known.bits) t)
     (sym i.kinds) (y.reads i.few bound b)
-
--- one more in a list
-snoc_length : {A : Type 0} (xs : List A) (x : A) (n : ℕ) → length xs ≡ n → length (xs ++ (x ∷ [])) ≡ n + 1
-snoc_length xs x n e = omega (arith, length-append xs (x ∷ []))
 
 -- a body with one atom more
 card_snoc : (kinds : List Kind) (xs : List Atom) (a : Atom) → has_card kinds (xs ++ (a ∷ [])) ≡ (has_card kinds xs || is_card kinds a.kind)
@@ -348,151 +236,82 @@ is-card kinds k = by (ltb k (length kinds)) refl
     by true e = refl
     by false e = sym (ap (λ (x : Kind). x.card) (get_or-eq_default kinds no_kind (ltb-false k (length kinds) e)))
 
-module _ (a : Atom) where
-  abbrev grown : Open → Sweep
-  grown o = record { body = (groups o).body ++ (a ∷ []); tests = (groups o).tests; heads = (groups o).heads }
+-- a mark that needs a rule stands in one
+needs_rule : (mark : Mark) → may_stand_here mark no_rule ≡ false → (o : Open) → may_stand_here mark o ≡ true → is_in_rule o ≡ true
+needs_rule mark e no_rule h = apart (sym e ∙ h)
+needs_rule mark e (in_rule rule) h = refl
+needs_rule mark e (in_sweep rule sweep) h = refl
 
-  grown_bound : (o : Open) → is_in_rule o ≡ true → (v : ℕ) → is_bound (with_groups o (grown o)) v ≡ (is_bound o v || occurs_in_terms v a.terms)
-  grown_bound no_rule p v = apart p
-  grown_bound (in_rule rule) p v = occurs_snoc v rule.body a
-  grown_bound (in_sweep rule sweep) p v =
-      ap (λ (x : Bool). occurs_in v rule.body || x) (occurs_snoc v sweep.body a) ∙ sym (or_assoc (occurs_in v rule.body) _ _)
+module _ (book : Book) (rest : Rest) (most : ℕ) (q : Most book most) where
+  -- a group against the most that it may have
+  roomy : (r : Reading) → Holds book r → is_in_rule r.now ≡ true → (n count : ℕ) → n ≡ count → count < most → ltb n (most_in_group r.now) ≡ true
+  roomy r i w n count e h = let m = q.says r i w in lt-ltb n (most_in_group r.now) (omega arith)
 
-  grown_in_rule : (rules sweeps : ℕ) (o : Open) → Stands rules sweeps o → is_in_rule o ≡ true → sweeps ≡ 0
-      → own_body (with_groups o (grown o)) ≡ own_body o ++ (a ∷ [])
-  grown_in_rule rules sweeps no_rule s p z = apart p
-  grown_in_rule rules sweeps (in_rule rule) s p z = refl
-  grown_in_rule rules sweeps (in_sweep rule sweep) s p z = let bad : ⊥ = omega (arith, s.1) in absurd bad
-
-  grown_in_sweep : (rules sweeps : ℕ) (o : Open) → Stands rules sweeps o → (sweeps ≡ 0 → ⊥) → own_body (with_groups o (grown o)) ≡ own_body o
-  grown_in_sweep rules sweeps no_rule s z = refl
-  grown_in_sweep rules sweeps (in_rule rule) s z = absurd (z s.1)
-  grown_in_sweep rules sweeps (in_sweep rule sweep) s z = refl
-
-bound_in_rule : (rules sweeps : ℕ) (o : Open) → Stands rules sweeps o → is_in_rule o ≡ true → sweeps ≡ 0 → (v : ℕ) → is_bound o v ≡ occurs_in v (own_body o)
-bound_in_rule rules sweeps no_rule s p z v = refl
-bound_in_rule rules sweeps (in_rule rule) s p z v = refl
-bound_in_rule rules sweeps (in_sweep rule sweep) s p z v = let bad : ⊥ = omega (arith, s.1) in absurd bad
-
-module _ (book : Book) (rest : List ℕ) (end at most : ℕ) (q : Most book most) where
-  -- ---- te
-
-  pub te_many : most ≤ book.tests → FieldsRead B.te book rest end at (record { took = T.Told (C.Many at); book = book })
-  te_many h = record {
-    reads = λ l r i p.
-        ends end (demand-false _ MANY at _ (full book most q r i (needs_rule B.te refl r.now p) _ book.tests i.tests h));
-  }
-
-  pub te_takes : book.tests < most → (took : Took) → TestReads rest end at book.bound took
-      → FieldsRead B.te book rest end at
-      (record { took = took; book = regrouped book book.body (book.tests + 1) book.heads book.carded book.own book.bound })
-  te_takes h took y = record {
+  pub te_takes : book.tests < most → (t : Result Scan Refusal) → TestReads rest book.bound.bits t
+      → FieldsRead B.te book rest
+      (mapped (λ s. record { bytes = s.bytes; book = regrouped book book.body (book.tests + 1) book.heads book.carded book.own book.bound }) t)
+  te_takes h t y = record {
     reads = λ l r i p.
         let w = needs_rule B.te refl r.now p in
-        led_by rest end (test_fields (drop 2 rest) end at (is_bound r.now)) _ (fields end B.te at r (drop 2 rest)) _
+        led_by rest (test_fields (drop 2 rest.bytes.now) rest.end (place rest) (is_bound r.now)) _ _ (fields rest.end B.te (place rest) r (drop 2 rest.bytes.now))
         (λ x.
         record { kinds = r.kinds; rules = r.rules; now = with_groups r.now (later ((groups r.now).tests ++ (test x ∷ [])) (groups r.now).heads r.now) })
-        (demand-true _ MANY at _ (roomy book most q r i w _ book.tests i.tests h))
-        (λ x k.
-        later-holds ((groups r.now).tests ++ (test x ∷ [])) (groups r.now).heads book r i w (book.tests + 1) book.heads
-        (snoc_length (groups r.now).tests (test x) book.tests i.tests) i.heads)
-        took (y.reads (is_bound r.now) i.bound);
+        _ (demand-true _ MANY _ _ (roomy r i w _ book.tests i.tests h))
+        (λ s x k. grind (arith, common_steps))
+        t (y.reads (is_bound r.now) i.bound);
   }
     where
       test : ℕ × List Term → Test
       test x = record { comparison = comparison_of x.0; left = get_or x.1 0 (constant 0); right = get_or x.1 1 (constant 0) }
 
-  -- ---- he
-
-  pub he_many : most ≤ book.heads → FieldsRead B.he book rest end at (record { took = T.Told (C.Many at); book = book })
-  he_many h = record {
-    reads = λ l r i p.
-        ends end (demand-false _ MANY at _ (full book most q r i (needs_rule B.he refl r.now p) _ book.heads i.heads h));
-  }
-
-  pub he_takes : book.heads < most → (scan : Scan) → AtomReads book.kinds rest end at book.bound book.bound scan
-      → FieldsRead B.he book rest end at
-      (record { took = scan.took; book = regrouped book book.body book.tests (book.heads + 1) book.carded book.own book.bound })
-  he_takes h scan y = record {
+  pub he_takes : book.heads < most → (t : Result Scan Refusal) → AtomReads rest book.kinds book.bound.bits book.bound.bits t
+      → FieldsRead B.he book rest
+      (mapped (λ s. record { bytes = s.bytes; book = regrouped book book.body book.tests (book.heads + 1) book.carded book.own book.bound }) t)
+  he_takes h t y = record {
     reads = λ l r i p.
         let w = needs_rule B.he refl r.now p in
-        led_by rest end (atom end r.kinds (is_bound r.now) at (drop 2 rest)) _ (fields end B.he at r (drop 2 rest)) _
+        led_by rest (atom rest.end r.kinds (is_bound r.now) (place rest) (drop 2 rest.bytes.now)) _ _ (fields rest.end B.he (place rest) r (drop 2 rest.bytes.now))
         (λ a.
         record { kinds = r.kinds; rules = r.rules; now = with_groups r.now (later (groups r.now).tests ((groups r.now).heads ++ (a ∷ [])) r.now) })
-        (demand-true _ MANY at _ (roomy book most q r i w _ book.heads i.heads h))
-        (λ a k.
-        later-holds (groups r.now).tests ((groups r.now).heads ++ (a ∷ [])) book r i w book.tests (book.heads + 1)
-        i.tests (snoc_length (groups r.now).heads a book.heads i.heads))
-        scan.took (atom_reads book rest end at book.bound book.bound scan y r i (is_bound r.now) i.bound);
+        _ (demand-true _ MANY _ _ (roomy r i w _ book.heads i.heads h))
+        (λ s a k. grind (arith, common_steps))
+        t (atom_reads book rest book.bound.bits book.bound.bits t y r i (is_bound r.now) i.bound);
   }
 
-  -- ---- ba
-
-  pub ba_many : most ≤ book.body → FieldsRead B.ba book rest end at (record { took = T.Told (C.Many at); book = book })
-  ba_many h = record {
+  pub ba_ends : book.body < most → (e : Refusal) → AtomReads rest book.kinds all_variables book.bound.bits (Err e) → FieldsRead B.ba book rest (Err e)
+  ba_ends h e y = record {
     reads = λ l r i p.
-        ends end (demand-false _ MANY at _ (full book most q r i (needs_rule B.ba refl r.now p) _ book.body i.body h));
+        subst (λ (j : Judged Reading). Ends rest.end j (Err e))
+        (sym (demand-true _ MANY _ _ (roomy r i (needs_rule B.ba refl r.now p) _ book.body i.body h)))
+        (atom_reads book rest all_variables book.bound.bits (Err e) y r i any_variable (λ v u. in_all v u)
+        (λ a l. go (record { kinds = r.kinds; rules = r.rules; now = with_groups r.now (grown a r.now) }) l));
   }
 
-  module _ (h : book.body < most) (scan : Scan) (y : AtomReads book.kinds rest end at all_variables book.bound scan) where
-    -- the state with the atom
-    abbrev with_atom : Bool → ℕ → Book
-    with_atom carded own = regrouped book (book.body + 1) book.tests book.heads carded own scan.known
+  module _ (h : book.body < most) (t : Result Scan Refusal) (y : AtomReads rest book.kinds all_variables book.bound.bits t) where
+    -- the book with the atom
+    abbrev with_atom : Bool → (Scan → Variables) → Scan → Next
+    with_atom carded own s =
+        record { bytes = s.bytes; book = regrouped book (book.body + 1) book.tests book.heads carded (own s) s.known }
 
-    ba_reads : (carded : Bool) (own : ℕ)
-        → ((r : Reading) → Holds book r → is_in_rule r.now ≡ true → (a : Atom) → a.kind ≡ get_or rest 2 0 → Marked scan.known (λ v. is_bound r.now v || occurs_in_terms v a.terms)
-        → (carded ≡ has_card r.kinds (own_body (with_groups r.now (grown a r.now))))
-        × Marked own (λ v. occurs_in v (own_body (with_groups r.now (grown a r.now)))))
-        → FieldsRead B.ba book rest end at (record { took = scan.took; book = with_atom carded own })
-    ba_reads carded own f = record {
+    pub ba_in_rule : book.sweeps ≡ 0 → (kind : ℕ) → kind ≡ get_or rest.bytes.now 2 0 → (card : Bool) → card ≡ is_of_class (kinds_of book.kinds) true kind
+        → (carded : Bool) → carded ≡ (book.carded || card) → FieldsRead B.ba book rest (mapped (with_atom carded (λ s. s.known)) t)
+    ba_in_rule z kind k card c carded x = record {
       reads = λ l r i p.
           let w = needs_rule B.ba refl r.now p in
-          led_by rest end (atom end r.kinds any_variable at (drop 2 rest)) _ (fields end B.ba at r (drop 2 rest)) _
+          led_by rest (atom rest.end r.kinds any_variable (place rest) (drop 2 rest.bytes.now)) _ _ (fields rest.end B.ba (place rest) r (drop 2 rest.bytes.now))
           (λ a. record { kinds = r.kinds; rules = r.rules; now = with_groups r.now (grown a r.now) })
-          (demand-true _ MANY at _ (roomy book most q r i w _ book.body i.body h))
-          (λ a k.
-          let known : Marked scan.known (λ v. is_bound r.now v || occurs_in_terms v a.terms) =
-          λ v u. k.1 v u ∙ ap (λ (x : Bool). x || occurs_in_terms v a.terms) (i.bound v u) in
-          let o = f r i w a k.0 known in
-          regrouped-holds book r (grown a r.now) carded own scan.known i w o.0 o.1
-          (λ v u. known v u ∙ sym (grown_bound a r.now w v)) (book.body + 1) book.tests book.heads
-          (snoc_length (groups r.now).body a book.body i.body) i.tests i.heads)
-          scan.took (atom_reads book rest end at all_variables book.bound scan y r i any_variable (λ v u. in_all v u));
+          _ (demand-true _ MANY _ _ (roomy r i w _ book.body i.body h))
+          (λ s a m. grind (arith, common_steps, card_snoc, occurs_snoc, is-card, i.own, i.bound, m.1))
+          t (atom_reads book rest all_variables book.bound.bits t y r i any_variable (λ v u. in_all v u));
     }
 
-    pub ba_in_rule : book.sweeps ≡ 0 → (kind : ℕ) → kind ≡ get_or rest 2 0 → (card : Bool) → card ≡ is_of_class (kinds_of book.kinds) true kind
-        → FieldsRead B.ba book rest end at (record { took = scan.took; book = with_atom (book.carded || card) scan.known })
-    ba_in_rule z kind k card c = ba_reads (book.carded || card) scan.known (λ r i w a m known.
-        let own = grown_in_rule a book.rules book.sweeps r.now i.stands w z in (
-          ap₂ (λ (x y : Bool). x || y) i.carded
-              (c ∙ is-card (kinds_of book.kinds) kind ∙ ap₂ (λ (ks : List Kind) (x : ℕ). is_card ks x) (sym i.kinds) (k ∙ sym m))
-              ∙ sym (card_snoc r.kinds (own_body r.now) a) ∙ ap (has_card r.kinds) (sym own),
-          (λ v u.
-              known v u ∙ ap (λ (x : Bool). x || occurs_in_terms v a.terms) (bound_in_rule book.rules book.sweeps r.now i.stands w z v)
-              ∙ sym (occurs_snoc v (own_body r.now) a) ∙ ap (occurs_in v) (sym own)),
-        ))
-
-    pub ba_in_sweep : (book.sweeps ≡ 0 → ⊥)
-        → FieldsRead B.ba book rest end at (record { took = scan.took; book = with_atom book.carded book.own })
-    ba_in_sweep z = ba_reads book.carded book.own (λ r i w a m known.
-        let own = grown_in_sweep a book.rules book.sweeps r.now i.stands z in
-        (i.carded ∙ ap (has_card r.kinds) (sym own), (λ v u. i.own v u ∙ ap (occurs_in v) (sym own))))
-
--- ---- en
-
-at-end : (end : ℕ) (r : Reading) (l : List ℕ) → length l ≡ 0 → none ≡ told (at_end end r l)
-at-end end r [] h = refl
-at-end end r (x ∷ l) h = let bad : ⊥ = omega arith in absurd bad
-
-past_end : (end : ℕ) (r : Reading) (l : List ℕ) (place : ℕ) → 0 < length l → place ≡ end - length l → some (TRAIL, place) ≡ told (at_end end r l)
-past_end end r [] place h e = let bad : ⊥ = omega arith in absurd bad
-past_end end r (x ∷ l) place h e = ap (λ (k : ℕ). some (TRAIL, k)) e
-
-module _ (book : Book) (rest : List ℕ) (end at : ℕ) where
-  pub en_accepted : length rest ≡ 2 → FieldsRead B.en book rest end at (record { took = T.Told C.Accepted; book = book })
-  en_accepted e = record { reads = λ l r i p next. at-end end r (drop 2 rest) (omega (arith, length-drop 2 rest)) }
-
-  pub en_trail : (length rest ≡ 2 → ⊥) → at + length rest ≡ end → FieldsRead B.en book rest end at (record { took = T.Told (C.Trail (at + 2)); book = book })
-  en_trail e w = record {
-    reads = λ l r i p next. past_end end r (drop 2 rest) (at + 2) (omega (arith, length-drop 2 rest)) (omega (arith, length-drop 2 rest));
-  }
+    pub ba_in_sweep : (book.sweeps ≡ 0 → ⊥) → FieldsRead B.ba book rest (mapped (with_atom book.carded (λ s. book.own)) t)
+    ba_in_sweep z = record {
+      reads = λ l r i p.
+          let w = needs_rule B.ba refl r.now p in
+          led_by rest (atom rest.end r.kinds any_variable (place rest) (drop 2 rest.bytes.now)) _ _ (fields rest.end B.ba (place rest) r (drop 2 rest.bytes.now))
+          (λ a. record { kinds = r.kinds; rules = r.rules; now = with_groups r.now (grown a r.now) })
+          _ (demand-true _ MANY _ _ (roomy r i w _ book.body i.body h))
+          (λ s a m. grind (arith, common_steps, card_snoc, occurs_snoc, or_assoc, i.own, i.bound, m.1))
+          t (atom_reads book rest all_variables book.bound.bits t y r i any_variable (λ v u. in_all v u));
+    }

@@ -1,22 +1,22 @@
 -- What the reader's state and its answers on a record say, in the terms of `files`.
-use Rattle.std.specs.Prelude.{ℕ, ◌≤◌, ◌<◌, ◌≡◌, Bool, true, false, List, [], length, drop}
+use Rattle.std.specs.Prelude.{ℕ, ◌≤◌, ◌<◌, ◌≡◌, Bool, true, false, List, [], length, drop, Result, Ok, Err, Option, Some, None}
 use Rattle.meaning.specs.Facts.{most_kinds}
 use Rattle.meaning.specs.Rules.{Atom, occurs_in}
-use Rattle.files.specs.Numbers.{NOCARD, BARE}
 use Rattle.files.specs.Judge.{Judged, go, stop}
 use Rattle.files.specs.Book.{Mark, Open, no_rule, in_rule, in_sweep, Reading, groups, rules_closed, sweeps_so_far, is_in_rule, may_stand_here, has_card, most_in_group, is_bound, fields, after_place, book_record}
 use Rattle.files.specs.Book as B
+use Rattle.answers.specs.Refused.{reason_of}
+use Rattle.answers.specs.declared.Reason.{Reason}
+use Rattle.answers.specs.declared.Refusal.{Refusal}
 use Rattle.kinds.specs.declared.Kinds.{Kinds}
 use Rattle.kinds.specs.Listed.{kinds_of}
+use Rattle.book.specs.Left.{place}
 use Rattle.book.specs.Reads.{Ends, Marked}
 use Rattle.book.specs.declared.Book.{Book}
 use Rattle.book.specs.declared.Mark as D
 use Rattle.book.specs.declared.Mark.TheVariants as M
-use Rattle.book.specs.declared.Lack.{Lack}
-use Rattle.book.specs.declared.Lack.TheVariants as L
-use Rattle.book.specs.declared.Took.{Took}
-use Rattle.book.specs.declared.Took.TheVariants as T
 use Rattle.book.specs.declared.Next.{Next}
+use Rattle.book.specs.declared.left.Rest.{Rest}
 
 -- ---- the state
 
@@ -30,8 +30,8 @@ with_rules kinds rules = record {
   heads = 0;
   sweeps = 0;
   carded = false;
-  own = 0;
-  bound = 0;
+  own = record { bits = 0 };
+  bound = record { bits = 0 };
 }
 
 -- the open rule's own body
@@ -59,8 +59,8 @@ pub record Holds (book : Book) (r : Reading) : Type 0 where
   pub heads : length (groups r.now).heads ≡ book.heads
   pub sweeps : sweeps_so_far r.now ≡ book.sweeps
   pub carded : book.carded ≡ has_card r.kinds (own_body r.now)
-  pub own : Marked book.own (λ v. occurs_in v (own_body r.now))
-  pub bound : Marked book.bound (is_bound r.now)
+  pub own : Marked book.own.bits (λ v. occurs_in v (own_body r.now))
+  pub bound : Marked book.bound.bits (is_bound r.now)
 
 -- ---- a record
 
@@ -73,7 +73,10 @@ mark_is M.Te = B.te
 mark_is M.He = B.he
 mark_is M.Sw = B.sw
 mark_is M.En = B.en
-mark_is M.Other = B.other
+
+abbrev pub marked : Option D.Mark → Mark
+marked None = B.other
+marked (Some mark) = mark_is mark
 
 -- PLACE
 pub record MayStand (book : Book) (mark : D.Mark) (answer : Bool) : Type 0 where
@@ -90,39 +93,48 @@ in_body B.sw = false
 in_body B.en = false
 in_body B.other = true
 
--- what a lack tells
-abbrev pub lack_told : Lack → ℕ → Judged Reading → Judged Reading
-lack_told L.Nothing at next = next
-lack_told L.Card at next = stop NOCARD at
-lack_told L.Atom at next = stop BARE at
+-- what is told of a lack
+abbrev pub lack_told : Option Reason → ℕ → Judged Reading → Judged Reading
+lack_told None at next = next
+lack_told (Some why) at next = stop (reason_of why) at
 
 -- NOCARD and BARE
-pub record Lacks (book : Book) (mark : D.Mark) (lack : Lack) : Type 0 where
-  pub says : (r : Reading) → Holds book r → (end at : ℕ) (rest : List ℕ)
-      → after_place end (mark_is mark) at r rest ≡ lack_told lack at (fields end (mark_is mark) at r rest)
+pub record Lacks (book : Book) (mark : D.Mark) (lack : Option Reason) : Type 0 where
+  pub says : (r : Reading) → Holds book r → (end at : ℕ) (bytes : List ℕ)
+      → after_place end (mark_is mark) at r bytes ≡ lack_told lack at (fields end (mark_is mark) at r bytes)
 
 -- the most that a group of what is open may have
 pub record Most (book : Book) (most : ℕ) : Type 0 where
   pub says : (r : Reading) → Holds book r → is_in_rule r.now ≡ true → most ≡ most_in_group r.now
 
--- `m` bytes are the record, and the state holds what is read with it
-pub record Went (rest : List ℕ) (judged : Judged Reading) (book : Book) (m : ℕ) : Type 0 where
+-- the record is read, and the state after it holds what is read with it
+pub record Went (rest : Rest) (judged : Judged Reading) (next : Next) : Type 0 where
   pub reading : Reading
-  pub some : 2 ≤ m
-  pub within : m ≤ length rest
-  pub goes : judged ≡ go reading (drop m rest)
-  pub holds : Holds book reading
+  pub some : 2 ≤ next.bytes
+  pub within : next.bytes ≤ length rest.bytes.now
+  pub goes : judged ≡ go reading (drop next.bytes rest.bytes.now)
+  pub holds : Holds next.book reading
 
--- what an answer on a record says: the state after it holds what is read, or the reading ends
-abbrev pub Led : List ℕ → ℕ → Judged Reading → Book → Took → Type 0
-Led rest end judged book (T.Bytes m) = Went rest judged book m
-Led rest end judged book (T.Told checked) = Ends end judged checked
+-- what an answer on the fields of a record says: it is read, or the reading ends
+abbrev pub Takes : Rest → Judged Reading → Result Next Refusal → Type 0
+Takes rest judged (Ok next) = Went rest judged next
+Takes rest judged (Err r) = Ends rest.end judged (Err r)
+
+-- the same of any record: where none comes after it, the book ends
+abbrev pub Led : Rest → Judged Reading → Result (Option Next) Refusal → Type 0
+Led rest judged (Ok (Some next)) = Went rest judged next
+Led rest judged (Ok None) = Ends rest.end judged (Ok tt)
+Led rest judged (Err r) = Ends rest.end judged (Err r)
 
 -- MANY and the fields, where the mark may stand
-pub record FieldsRead (mark : Mark) (book : Book) (rest : List ℕ) (end at : ℕ) (next : Next) : Type 0 where
-  pub reads : 2 ≤ length rest → (r : Reading) → Holds book r → may_stand_here mark r.now ≡ true
-      → Led rest end (fields end mark at r (drop 2 rest)) next.book next.took
+pub record FieldsRead (mark : Mark) (book : Book) (rest : Rest) (result : Result Next Refusal) : Type 0 where
+  pub reads : 2 ≤ length rest.bytes.now → (r : Reading) → Holds book r → may_stand_here mark r.now ≡ true
+      → Takes rest (fields rest.end mark (place rest) r (drop 2 rest.bytes.now)) result
+
+pub record FieldsLed (mark : Mark) (book : Book) (rest : Rest) (result : Result (Option Next) Refusal) : Type 0 where
+  pub reads : (r : Reading) → Holds book r → may_stand_here mark r.now ≡ true
+      → Led rest (fields rest.end mark (place rest) r (drop 2 rest.bytes.now)) result
 
 -- a whole record
-pub record RecordReads (book : Book) (rest : List ℕ) (end : ℕ) (next : Next) : Type 0 where
-  pub reads : (r : Reading) → Holds book r → Led rest end (book_record end r rest) next.book next.took
+pub record RecordReads (book : Book) (rest : Rest) (result : Result (Option Next) Refusal) : Type 0 where
+  pub reads : (r : Reading) → Holds book r → Led rest (book_record rest.end r rest.bytes.now) result

@@ -1,6 +1,5 @@
-pub mod Told
 pub mod Kinds
-pub mod ToldLaws
 pub mod Sets
+pub mod Left
 pub mod Reads
 pub mod Holds

@@ -1,80 +1,75 @@
 // A refusal in words: what its number means, the place, and the bytes around it.
-ghost use Rattle.std.specs.Prelude.{◌≤◌};
+ghost use Rattle.std.specs.Prelude.{◌≡◌, []};
 
-use answers::Answer;
-use fields::byte_at;
+use answers::{Answer, File, Reason};
+use std::fmt;
+use std::fmt::{Display, Formatter, Write};
+use strip::Strip;
 use terminal::say;
-use wording::refusals::{say_file, say_name, say_reason};
+use wording::refusals::meaning;
 
 // How many bytes are shown before the place, and from it on: a word of a strip each.
-const AROUND: usize = 8;
+const AROUND: usize = Strip::WORD;
 
-// The byte at which a place of the file is: a strip's places are words.
-fn byte_of(answer: Answer) -> usize {
-    let place = answer.place as usize;
-    if answer.file == 2 && place < 1000000 {
-        return 8 * place;
-    }
-    place
+// The files of a command: the book or the strip, and the board, empty where the command has none.
+#[derive(Clone, Copy)]
+pub struct Files<'a> {
+    pub first: &'a [u8],
+    pub board: &'a [u8],
 }
 
-// The lesser of two sizes.
-pub fn least(a: usize, b: usize) -> usize
-    ensures { (result ≤ a) × (result ≤ b) }
-{
-    if a < b { a } else { b }
+impl<'a> Files<'a> {
+    // Those of a command that reads only a book or a strip.
+    pub fn without_board(first: &'a [u8]) -> Files<'a>
+        ensures { (result.first.now ≡ first.now) × (result.board.now ≡ []) }
+    {
+        Files { first, board: b"" }
+    }
 }
 
-// The first bytes, at most so many.
-fn say_bytes(rt: HostRuntime, bytes: &[u8], most: usize) {
-    let end = least(most, bytes.len());
-    if end == 0 {
-        say(rt, b" none");
-    }
-    let mut at = 0;
-    while at < end {
-        say(rt, b" ");
-        let byte = byte_at(bytes, at);
-        let _ = print!(rt; "{byte:02x}");
-        at += 1;
-    }
-    say(rt, b"\n");
-}
+// Bytes as they are shown, each behind a blank.
+#[derive(Clone, Copy)]
+struct Shown<'a>(&'a [u8]);
 
-// The place so many bytes before, or the start.
-fn shortly_before(at: usize) -> usize
-    ensures { result ≤ at }
-{
-    if AROUND < at { at - AROUND } else { 0 }
+impl Display for Shown<'_> {
+    fn fmt<W: Write>(&self, f: &mut Formatter<W>) -> fmt::Result {
+        if self.0.is_empty() {
+            return f.write_str(" none");
+        }
+        for byte in self.0 {
+            write!(f, " {byte:02x}")?;
+        }
+        Ok(())
+    }
 }
 
 // The bytes around a place.
 fn say_around(rt: HostRuntime, file: &[u8], place: usize) {
-    let at = least(place, file.len());
-    let from = shortly_before(at);
-    say(rt, b"bytes before:");
-    say_bytes(rt, &file[from..], at - from);
-    say(rt, b"bytes there:");
-    say_bytes(rt, &file[at..], AROUND);
+    let at = place.min(file.len());
+    let (before, there) = file.split_at(at);
+    let before = Shown(&before[at.saturating_sub(AROUND)..]);
+    let there = Shown(&there[..there.len().min(AROUND)]);
+    say(
+        rt,
+        format_args!("bytes before:{before}\nbytes there:{there}\n"),
+    );
 }
 
-// The words for a refusal. The first file is the book or the strip.
-pub fn explain(rt: HostRuntime, answer: Answer, first: &[u8], board: &[u8]) {
-    say_name(rt, answer.number);
-    if answer.file == 2 {
-        say(rt, b" at word ");
-    } else {
-        say(rt, b" at byte ");
-    }
-    let _ = rt.print(answer.place);
-    say(rt, b" of the ");
-    say_file(rt, answer.file);
-    say(rt, b": ");
-    say_reason(rt, answer.number);
-    say(rt, b"\n");
-    if answer.file == 3 {
-        say_around(rt, board, byte_of(answer));
-    } else {
-        say_around(rt, first, byte_of(answer));
-    }
+// The words for a refusal. A number that no reason has is told as a strip's, and a file that is none as the output.
+pub fn explain(rt: HostRuntime, answer: Answer, files: Files) {
+    let reason = Reason::try_from(answer.number).unwrap_or(Reason::Strip);
+    let file = File::try_from(answer.file).unwrap_or(File::Output);
+    let place = answer.place as usize;
+    // a strip's places are words
+    let (unit, size, bytes) = match file {
+        File::Strip => ("word", Strip::WORD, files.first),
+        File::Board => ("byte", 1, files.board),
+        File::Book | File::Output => ("byte", 1, files.first),
+    };
+    let given_for = meaning(reason);
+    say(
+        rt,
+        format_args!("{reason} at {unit} {place} of the {file}: {given_for}\n"),
+    );
+    say_around(rt, bytes, size * place);
 }

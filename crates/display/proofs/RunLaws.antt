@@ -5,10 +5,11 @@ use native.Mathlib.Omega.{arith}
 use mathlib.Core.Path.{◌≡◌, refl, sym, ap, ap₂, subst, ◌∙◌}
 use mathlib.Core.Bool.{Bool, true, false}
 use mathlib.Core.List.{List}
-use lib.ListN.{length, take, drop, length-append}
+use lib.ListN.{length, take, drop, replicate, length-append}
 use lib.Seq.{take_at, length-take-le}
 use lib.Dec.{ltb}
 use borrow.Author.Tests.{lt-ltb}
+use Rattle.std.proofs.lemmas.List.{length-replicate}
 use Rattle.meaning.specs.Facts.{Kind, Board, longest_board}
 use Rattle.meaning.specs.Firing.{run}
 use Rattle.files.specs.Numbers as N
@@ -46,37 +47,41 @@ run_measured book_file board_file limit room =
     accepted_measured board (judge_board b.kinds board_file) _ λ rows.
     room_measured longest_board room (run_outcome (run b limit rows)) refl
 
-module _ (book_file board_file out₀ out₁ : List ℕ) (answer : N.Answer) (size : ℕ) (room : length out₀ ≡ longest_board) (same : length out₁ ≡ length out₀)
-    (told : answer ≡ shown (run_book_file book_file board_file display_limit (length out₀)).answer)
-    (wrote : out₁ ≡ bytes_after (run_book_file book_file board_file display_limit (length out₀)) out₀) (sized : size ≡ answer.length) where
+-- the output before the run
+abbrev zeros : List ℕ
+zeros = replicate longest_board 0
+
+module _ (book_file board_file out : List ℕ) (answer : N.Answer) (same : length out ≡ length zeros)
+    (told : answer ≡ shown (run_book_file book_file board_file display_limit (length zeros)).answer)
+    (wrote : out ≡ bytes_after (run_book_file book_file board_file display_limit (length zeros)) zeros) where
   abbrev outcome : Outcome
-  outcome = run_book_file book_file board_file display_limit (length out₀)
+  outcome = run_book_file book_file board_file display_limit (length zeros)
 
-  fits : length outcome.written ≤ length out₁
+  fits : length outcome.written ≤ length out
   unfolding bytes_after
-  fits = omega (arith, ap length wrote ∙ length-append outcome.written (drop (length outcome.written) out₀))
+  fits = omega (arith, ap length wrote ∙ length-append outcome.written (drop (length outcome.written) zeros))
 
-  measured : size ≡ length outcome.written
+  measured : answer.length ≡ length outcome.written
   measured =
       let small : length outcome.written < most_place = omega (arith, fits) in
-      sized ∙ ap (λ (a : N.Answer). a.length) told ∙ ap at_most_place (run_measured book_file board_file display_limit (length out₀)) ∙ rw (lt-ltb (length outcome.written) most_place small)
+      ap (λ (a : N.Answer). a.length) told ∙ ap at_most_place (run_measured book_file board_file display_limit (length zeros)) ∙ rw (lt-ltb (length outcome.written) most_place small)
 
-  pub size_fits : size ≤ length out₁
+  pub size_fits : answer.length ≤ length out
   size_fits = omega (arith, fits, measured)
 
-  pub size_part : size ≡ length (take size out₁)
-  size_part = sym (length-take-le size out₁ size_fits)
+  pub size_part : answer.length ≡ length (take answer.length out)
+  size_part = sym (length-take-le answer.length out size_fits)
 
   -- the part is what is written
-  part : take size out₁ ≡ outcome.written
+  part : take answer.length out ≡ outcome.written
   unfolding bytes_after
-  part = ap (take size) wrote ∙ take_at outcome.written (drop (length outcome.written) out₀) size (sym measured)
+  part = ap (take answer.length) wrote ∙ take_at outcome.written (drop (length outcome.written) zeros) answer.length (sym measured)
 
   pub displayed : (kinds : List Kind) (before after : List ℕ) (r : ℕ) → kinds ≡ (kinds_at book_file).value
-      → TextPut (answer_text answer (board_at (take size out₁) kinds)) before after r → TextPut (screen_text book_file board_file) before after r
+      → TextPut (answer_text answer (board_at (take answer.length out) kinds)) before after r → TextPut (screen_text book_file board_file) before after r
   unfolding screen_text
   displayed kinds before after r k h =
       subst (λ (text : List ℕ). TextPut text before after r)
       (ap₂ (λ (a : N.Answer) (w : Board). answer_text a w) told (ap₂ (λ (b : List ℕ) (ks : List Kind). board_at b ks) part k)
-      ∙ ap (λ (n : ℕ). answer_text (shown (run_book_file book_file board_file display_limit n).answer) (board_at (run_book_file book_file board_file display_limit n).written (kinds_at book_file).value)) room)
+      ∙ ap (λ (n : ℕ). answer_text (shown (run_book_file book_file board_file display_limit n).answer) (board_at (run_book_file book_file board_file display_limit n).written (kinds_at book_file).value)) (length-replicate {A = ℕ} longest_board 0))
       h

@@ -7,23 +7,19 @@ use board::Board;
 use book::Book;
 pub use plain_run::display;
 use screen::Screen;
-use terminal::{read_or_empty, say};
+use terminal::{read_or_empty, say_bytes};
 
 // Shows the run of the files `book` and `board` of the folder that it is run in. One byte more than the longest file is enough for every answer.
 pub fn show(rt: HostRuntime) {
-    let mut book = [0; Book::LONGEST + 1];
-    let mut board = [0; Board::LONGEST + 1];
-    let book_read = read_or_empty(rt, b"book", &mut book);
-    if !book_read.is_read {
+    let mut book_space = [0; Book::LONGEST + 1];
+    let mut board_space = [0; Board::LONGEST + 1];
+    let Ok(book) = read_or_empty(rt, b"book", &mut book_space) else {
         return;
-    }
-    let board_read = read_or_empty(rt, b"board", &mut board);
-    if !board_read.is_read {
+    };
+    let Ok(board) = read_or_empty(rt, b"board", &mut board_space) else {
         return;
-    }
-    let n = book_read.bytes;
-    let m = board_read.bytes;
+    };
     let mut text = [0; Screen::BYTES];
-    let end = display(&book[..n], &board[..m], &mut text);
-    say(rt, &text[..end]);
+    let end = display(book, board, &mut text);
+    say_bytes(rt, &text[..end]);
 }

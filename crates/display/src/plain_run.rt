@@ -1,5 +1,4 @@
 // Document 01's display: the plain run of two files, as text.
-ghost use Rattle.std.specs.Prelude.{◌≡◌};
 ghost use Rattle.screen.specs.Shows.{TextPut};
 ghost use Rattle.screen.specs.Displayed.{screen_text};
 
@@ -7,19 +6,16 @@ use board::Board;
 use engine::llwybrenu_run_book;
 use screen::text;
 
-// A length as a size.
-fn size(length: u32) -> usize
-    ensures { result ≡ length }
-{
-    length as usize
-}
-
 // The text for the files `book` and `board`, with the firing limit 100.
 pub fn display(book: &[u8], board: &[u8], out: &mut [u8]) -> usize
     ensures { TextPut (screen_text book.now board.now) out.old out.new result }
 {
     let mut after = [0; Board::LONGEST];
     let answer = llwybrenu_run_book(book, board, 100, &mut after);
-    let length = size(answer.length);
-    text(answer, book::kinds(book), &after[..length], out)
+    text(
+        answer,
+        book::kinds(book),
+        &after[..answer.length as usize],
+        out,
+    )
 }

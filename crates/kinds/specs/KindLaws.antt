@@ -1,6 +1,7 @@
 -- The kinds of a struct `Kinds`, one by one: how many there are, what kind k is, and that one more kind stands at the end of the list.
-use Rattle.std.specs.Prelude.{ℕ, zero, suc, ◌+◌, ◌≤◌, ◌<◌, ◌≡◌, refl, Bool, true, false, not, List, [], ◌∷◌, ◌++◌, length, get_or, set, eqb, leb, ltb, if◌then◌else◌}
+use Rattle.std.specs.Prelude.{ℕ, zero, suc, ◌+◌, ◌≤◌, ◌<◌, ◌≡◌, refl, Bool, true, false, not, List, [], ◌∷◌, ◌++◌, length, get_or, set, min, eqb, leb, ltb, if◌then◌else◌}
 use Rattle.std.proofs.Common.{add-zero, add-suc, suc-add, zero-add, arith, sym, ap, ap₂, ◌∙◌, get_or-set_same, get_or-set_other, leb-true, leb-false, lt-ltb, le-ltb, le-leb}
+use Rattle.std.proofs.Math.Bool.{beq}
 use Rattle.std.proofs.Math.ListN.{get_or-eq_default}
 use Rattle.std.proofs.lemmas.Bool.{lt-leb}
 use Rattle.meaning.specs.Facts.{Kind, no_kind, is_card, arity_of, most_kinds}
@@ -24,26 +25,12 @@ from_at classes arities i (suc n) zero h = ap (kind_by classes arities) (sym (ad
 from_at classes arities i (suc n) (suc k) h =
     from_at classes arities (suc i) n k (omega arith) ∙ ap (kind_by classes arities) (suc-add i k ∙ sym (add-suc i k))
 
-range_of : (count k : ℕ) → k < count → k < most_kinds → k < in_range count
-range_of count k h l = cases (leb count most_kinds) refl
+in_range_is : (count : ℕ) → in_range count ≡ min count most_kinds
+in_range_is count = cases (leb count most_kinds) refl
   where
-    cases : (t : Bool) → leb count most_kinds ≡ t → k < (if t then count else most_kinds)
-    cases true e = h
-    cases false e = l
-
-range_past : (count k : ℕ) → count ≤ k → in_range count ≤ k
-range_past count k h = cases (leb count most_kinds) refl
-  where
-    cases : (t : Bool) → leb count most_kinds ≡ t → (if t then count else most_kinds) ≤ k
-    cases true e = h
-    cases false e = omega (arith, leb-false count most_kinds e)
-
-range_most : (count k : ℕ) → most_kinds ≤ k → in_range count ≤ k
-range_most count k h = cases (leb count most_kinds) refl
-  where
-    cases : (t : Bool) → leb count most_kinds ≡ t → (if t then count else most_kinds) ≤ k
+    cases : (t : Bool) → leb count most_kinds ≡ t → (if t then count else most_kinds) ≡ min count most_kinds
     cases true e = omega (arith, leb-true count most_kinds e)
-    cases false e = h
+    cases false e = omega (arith, leb-false count most_kinds e)
 
 -- ---- kind k
 
@@ -54,19 +41,16 @@ kinds-length kinds = from-length kinds.class kinds.arity 0 (in_range kinds.count
 pub kind_at : (kinds : Kinds) (k : ℕ) → k < kinds.count → k < most_kinds → get_or (kinds_of kinds) k no_kind ≡ kind_by kinds.class kinds.arity k
 unfolding kinds_of
 kind_at kinds k h l =
-    from_at kinds.class kinds.arity 0 (in_range kinds.count) k (range_of kinds.count k h l)
+    from_at kinds.class kinds.arity 0 (in_range kinds.count) k (omega (arith, in_range_is kinds.count))
     ∙ ap (kind_by kinds.class kinds.arity) (zero-add k)
 
-past : (kinds : Kinds) (k : ℕ) → in_range kinds.count ≤ k → get_or (kinds_of kinds) k no_kind ≡ no_kind
-past kinds k h = get_or-eq_default (kinds_of kinds) no_kind (omega (arith, kinds-length kinds))
+past : (kinds : Kinds) (k : ℕ) → min kinds.count most_kinds ≤ k → get_or (kinds_of kinds) k no_kind ≡ no_kind
+past kinds k h = get_or-eq_default (kinds_of kinds) no_kind (omega (arith, kinds-length kinds, in_range_is kinds.count))
 
 -- ---- what the methods answer
 
-pub arity_past : (kinds : Kinds) (k : ℕ) → kinds.count ≤ k → 0 ≡ arity_of (kinds_of kinds) k
-arity_past kinds k h = sym (ap (λ (x : Kind). x.arity) (past kinds k (range_past kinds.count k h)))
-
-pub arity_most : (kinds : Kinds) (k : ℕ) → most_kinds ≤ k → 0 ≡ arity_of (kinds_of kinds) k
-arity_most kinds k h = sym (ap (λ (x : Kind). x.arity) (past kinds k (range_most kinds.count k h)))
+pub arity_past : (kinds : Kinds) (k : ℕ) → min kinds.count most_kinds ≤ k → arity_of (kinds_of kinds) k ≡ 0
+arity_past kinds k h = ap (λ (x : Kind). x.arity) (past kinds k h)
 
 pub arity_at : (kinds : Kinds) (k : ℕ) → k < kinds.count → k < most_kinds → get_or kinds.arity k 0 ≡ arity_of (kinds_of kinds) k
 arity_at kinds k h l = sym (ap (λ (x : Kind). x.arity) (kind_at kinds k h l))
@@ -74,33 +58,27 @@ arity_at kinds k h l = sym (ap (λ (x : Kind). x.arity) (kind_at kinds k h l))
 pub card-at : (kinds : Kinds) (k : ℕ) → k < kinds.count → k < most_kinds → is_card (kinds_of kinds) k ≡ eqb (get_or kinds.class k 0) 0
 card-at kinds k h l = ap (λ (x : Kind). x.card) (kind_at kinds k h l)
 
-undeclared : (kinds : Kinds) (card : Bool) (k : ℕ) → in_range kinds.count ≤ k → false ≡ is_of_class (kinds_of kinds) card k
-undeclared kinds true k h = rw (le-ltb k (length (kinds_of kinds)) (omega (arith, kinds-length kinds)))
-undeclared kinds false k h = rw (le-ltb k (length (kinds_of kinds)) (omega (arith, kinds-length kinds)))
-
-pub class-past : (kinds : Kinds) (card : Bool) (k : ℕ) → kinds.count ≤ k → false ≡ is_of_class (kinds_of kinds) card k
-class-past kinds card k h = undeclared kinds card k (range_past kinds.count k h)
-
-pub class_most : (kinds : Kinds) (card : Bool) (k : ℕ) → most_kinds ≤ k → false ≡ is_of_class (kinds_of kinds) card k
-class_most kinds card k h = undeclared kinds card k (range_most kinds.count k h)
-
 declared : (kinds : Kinds) (k : ℕ) → k < kinds.count → k < most_kinds → ltb k (length (kinds_of kinds)) ≡ true
-declared kinds k h l = lt-ltb k (length (kinds_of kinds)) (omega (arith, kinds-length kinds, range_of kinds.count k h l))
+declared kinds k h l = lt-ltb k (length (kinds_of kinds)) (omega (arith, kinds-length kinds, in_range_is kinds.count))
 
-pub class-card : (kinds : Kinds) (card : Bool) (k : ℕ) → card ≡ true → k < kinds.count → k < most_kinds
-    → eqb (get_or kinds.class k 0) 0 ≡ is_of_class (kinds_of kinds) card k
-class-card kinds true k e h l = rw (declared kinds k h l) (sym (card-at kinds k h l))
-class-card kinds false k e h l = let z : ◌≡◌ {A = ℕ} 0 1 = cc in let bad : ⊥ = omega arith in absurd bad
+pub class_past : (kinds : Kinds) (card : Bool) (k : ℕ) → min kinds.count most_kinds ≤ k → is_of_class (kinds_of kinds) card k ≡ false
+class_past kinds true k h = rw (le-ltb k (length (kinds_of kinds)) (omega (arith, kinds-length kinds, in_range_is kinds.count)))
+class_past kinds false k h = rw (le-ltb k (length (kinds_of kinds)) (omega (arith, kinds-length kinds, in_range_is kinds.count)))
 
-pub class_notice : (kinds : Kinds) (card : Bool) (k : ℕ) → card ≡ false → k < kinds.count → k < most_kinds
-    → not (eqb (get_or kinds.class k 0) 0) ≡ is_of_class (kinds_of kinds) card k
-class_notice kinds false k e h l = rw (declared kinds k h l) (ap not (sym (card-at kinds k h l)))
-class_notice kinds true k e h l = let z : ◌≡◌ {A = ℕ} 0 1 = cc in let bad : ⊥ = omega arith in absurd bad
+same-card : (b : Bool) → beq b true ≡ b
+same-card true = refl
+same-card false = refl
+
+same_notice : (b : Bool) → beq b false ≡ not b
+same_notice true = refl
+same_notice false = refl
+
+pub class_at : (kinds : Kinds) (card : Bool) (k : ℕ) → k < kinds.count → k < most_kinds
+    → beq (eqb (get_or kinds.class k 0) 0) card ≡ is_of_class (kinds_of kinds) card k
+class_at kinds true k h l = rw (declared kinds k h l, card-at kinds k h l) (same-card _)
+class_at kinds false k h l = rw (declared kinds k h l, card-at kinds k h l) (same_notice _)
 
 -- ---- one kind more
-
-pub with_full : (kinds : Kinds) (class arity : ℕ) → most_kinds ≤ kinds.count → kinds ≡ with_kind kinds class arity
-with_full kinds class arity h = rw (le-leb most_kinds kinds.count h)
 
 pub with-room : (kinds : Kinds) (class arity : ℕ) → kinds.count < most_kinds
     → record { count = kinds.count + 1; class = set kinds.class kinds.count class; arity = set kinds.arity kinds.count arity } ≡ with_kind kinds class arity

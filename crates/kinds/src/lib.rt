@@ -10,8 +10,8 @@ ghost use Rattle.kinds.specs.Listed.{kinds_of, no_kinds, with_kind};
 #[derive(Clone, Copy)]
 pub struct Kinds {
     pub count: usize,
-    pub class: [u8; 32],
-    pub arity: [u8; 32],
+    pub class: [u8; Kinds::MOST],
+    pub arity: [u8; Kinds::MOST],
 }
 
 impl Kinds {
@@ -25,55 +25,42 @@ impl Kinds {
     {
         Kinds {
             count: 0,
-            class: [0; 32],
-            arity: [0; 32],
+            class: [0; Kinds::MOST],
+            arity: [0; Kinds::MOST],
         }
     }
 
     // With one kind more, where there is room for it.
-    pub fn with(self, class: u8, arity: u8) -> Kinds
+    pub fn with(mut self, class: u8, arity: u8) -> Kinds
         ensures { result ≡ with_kind self class arity }
     {
-        let at = self.count;
-        if Kinds::MOST <= at {
-            return self;
+        if self.count < Kinds::MOST {
+            self.class[self.count] = class;
+            self.arity[self.count] = arity;
+            self.count += 1;
         }
-        let mut next = self;
-        next.class[at] = class;
-        next.arity[at] = arity;
-        next.count = at + 1;
-        next
+        self
     }
 
     // Is the kind declared, and of the class?
+    #[tactic(auto, using(crate::specs::KindLaws::class_at, crate::specs::KindLaws::class_past))]
     pub fn is_of_class(self, card: bool, kind: u8) -> bool
         ensures { result ≡ is_of_class (kinds_of self) card kind }
     {
-        let at = kind as usize;
-        if self.count <= at {
-            return false;
-        }
-        if Kinds::MOST <= at {
-            return false;
-        }
-        let class = self.class[at];
-        if card {
-            return class == 0;
-        }
-        class != 0
+        let at = usize::from(kind);
+        at < self.count.min(Kinds::MOST) && (self.class[at] == 0) == card
     }
 
     // How many numbers a fact of the kind has; none where it is not declared.
+    #[tactic(auto, using(crate::specs::KindLaws::arity_at, crate::specs::KindLaws::arity_past))]
     pub fn arity_of(self, kind: u8) -> u8
         ensures { result ≡ arity_of (kinds_of self) kind }
     {
-        let at = kind as usize;
-        if self.count <= at {
-            return 0;
+        let at = usize::from(kind);
+        if at < self.count.min(Kinds::MOST) {
+            self.arity[at]
+        } else {
+            0
         }
-        if Kinds::MOST <= at {
-            return 0;
-        }
-        self.arity[at]
     }
 }

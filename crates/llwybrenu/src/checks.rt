@@ -1,108 +1,82 @@
-// The commands that run nothing: check, check-strip, list and translate. Each is true: its words made a command, whatever came of it.
+// The commands that run nothing: check, check-strip, list and translate. Each ends early where a file can't be read or written.
 use crate::refusals::refuse;
-use answers::Answer;
+use crate::written::written;
+use answers::{Answer, Reason};
 use board::Board;
 use book::Book;
-use command::arguments::{read, write};
+use command::arguments::Argument;
 use command::listing::say_strip;
+use command::refusals::Files;
 use strip::Strip;
-use terminal::say;
+use terminal::{Told, say};
 
 // What a check found.
-fn tell(rt: HostRuntime, answer: Answer, first: &[u8], board: &[u8]) {
-    if answer.number == 0 {
-        say(rt, b"accepted\n");
-    } else {
-        refuse(rt, answer, first, board);
+fn tell(rt: HostRuntime, answer: Answer, files: Files) {
+    match Reason::try_from(answer.number) {
+        Ok(_) => refuse(rt, answer, files),
+        Err(_) => say(rt, "accepted\n"),
     }
 }
 
 // check BOOK [BOARD]
-pub fn check(rt: HostRuntime, words: usize) -> bool {
-    if words < 3 || 4 < words {
-        return false;
-    }
-    let mut book = [0; Book::LONGEST + 1];
-    let book_read = read(rt, 2, &mut book);
-    if !book_read.is_read {
-        return true;
-    }
-    let n = book_read.bytes;
-    if words == 3 {
+pub fn check(rt: HostRuntime, book: Argument, board: Option<Argument>) -> Result<(), Told> {
+    let mut book_space = [0; Book::LONGEST + 1];
+    let book = book.read(rt, &mut book_space)?;
+    let Some(board) = board else {
         tell(
             rt,
-            engine::llwybrenu_check_book(&book[..n]),
-            &book[..n],
-            b"",
+            engine::llwybrenu_check_book(book),
+            Files::without_board(book),
         );
-        return true;
-    }
-    let mut board = [0; Board::LONGEST + 1];
-    let board_read = read(rt, 3, &mut board);
-    if board_read.is_read {
-        let m = board_read.bytes;
-        tell(
-            rt,
-            engine::llwybrenu_check_board(&book[..n], &board[..m]),
-            &book[..n],
-            &board[..m],
-        );
-    }
-    true
+        return Ok(());
+    };
+    let mut board_space = [0; Board::LONGEST + 1];
+    let board = board.read(rt, &mut board_space)?;
+    tell(
+        rt,
+        engine::llwybrenu_check_board(book, board),
+        Files { first: book, board },
+    );
+    Ok(())
 }
 
 // check-strip STRIP
-pub fn check_strip(rt: HostRuntime) -> bool {
-    let mut strip = [0; Strip::LONGEST + 1];
-    let found = read(rt, 2, &mut strip);
-    if found.is_read {
-        let n = found.bytes;
-        tell(
-            rt,
-            engine::llwybrenu_check_strip(&strip[..n]),
-            &strip[..n],
-            b"",
-        );
-    }
-    true
+pub fn check_strip(rt: HostRuntime, strip: Argument) -> Result<(), Told> {
+    let mut space = [0; Strip::LONGEST + 1];
+    let strip = strip.read(rt, &mut space)?;
+    tell(
+        rt,
+        engine::llwybrenu_check_strip(strip),
+        Files::without_board(strip),
+    );
+    Ok(())
 }
 
 // list STRIP
-pub fn list(rt: HostRuntime) -> bool {
-    let mut strip = [0; Strip::LONGEST + 1];
-    let found = read(rt, 2, &mut strip);
-    if !found.is_read {
-        return true;
+pub fn list(rt: HostRuntime, strip: Argument) -> Result<(), Told> {
+    let mut space = [0; Strip::LONGEST + 1];
+    let strip = strip.read(rt, &mut space)?;
+    let answer = engine::llwybrenu_check_strip(strip);
+    match Reason::try_from(answer.number) {
+        Ok(_) => refuse(rt, answer, Files::without_board(strip)),
+        Err(_) => say_strip(rt, strip),
     }
-    let n = found.bytes;
-    let answer = engine::llwybrenu_check_strip(&strip[..n]);
-    if answer.number == 0 {
-        say_strip(rt, &strip[..n]);
-    } else {
-        refuse(rt, answer, &strip[..n], b"");
-    }
-    true
+    Ok(())
 }
 
 // translate BOOK -o STRIP
-pub fn translate(rt: HostRuntime, target: usize) -> bool {
-    let mut book = [0; Book::LONGEST + 1];
-    let found = read(rt, 2, &mut book);
-    if !found.is_read {
-        return true;
+pub fn translate(rt: HostRuntime, book: Argument, target: Argument) -> Result<(), Told> {
+    let mut book_space = [0; Book::LONGEST + 1];
+    let book = book.read(rt, &mut book_space)?;
+    let mut space = [0; Strip::LONGEST];
+    let answer = engine::llwybrenu_translate(book, &mut space);
+    if Reason::try_from(answer.number).is_ok() {
+        refuse(rt, answer, Files::without_board(book));
+        return Ok(());
     }
-    let n = found.bytes;
-    let mut strip = [0; Strip::LONGEST];
-    let answer = engine::llwybrenu_translate(&book[..n], &mut strip);
-    if answer.number != 0 {
-        refuse(rt, answer, &book[..n], b"");
-        return true;
-    }
-    let end = io::count(answer.length as isize, &strip);
-    if write(rt, target, &strip[..end]) {
-        say(rt, b"translated: ");
-        let _ = rt.print(end / 8);
-        say(rt, b" words\n");
-    }
-    true
+    let strip = written(answer, &space);
+    target.write(rt, strip)?;
+    let words = strip.len() / Strip::WORD;
+    say(rt, format_args!("translated: {words} words\n"));
+    Ok(())
 }

@@ -6,50 +6,46 @@
 mod checks;
 mod refusals;
 mod runs_of;
+mod written;
 
-use command::arguments::{count, is_word};
+use command::commands::Command;
+use terminal::Told;
 use wording::usage::{help, usage};
 
-// Does what the words before `-o` say; `target` is the place of the word after it, 0 where there is none. False where the words make no command.
-fn obey(rt: HostRuntime, words: usize, target: usize) -> bool {
-    if is_word(rt, 1, b"translate") {
-        return words == 3 && target != 0 && checks::translate(rt, target);
+// Does what a command says.
+fn obey(rt: HostRuntime, command: Command) -> Result<(), Told> {
+    match command {
+        Command::Check { book, board } => checks::check(rt, book, board),
+        Command::CheckStrip { strip } => checks::check_strip(rt, strip),
+        Command::Run {
+            book,
+            board,
+            limit,
+            target,
+        } => runs_of::run(rt, book, board, limit, target),
+        Command::RunStrip {
+            strip,
+            board,
+            limit,
+            allowance,
+            target,
+        } => runs_of::run_strip(rt, strip, board, limit, allowance, target),
+        Command::Translate { book, strip } => checks::translate(rt, book, strip),
+        Command::List { strip } => checks::list(rt, strip),
+        Command::Help => {
+            usage(&rt.stdout());
+            help(rt);
+            Ok(())
+        }
     }
-    if is_word(rt, 1, b"run") {
-        return runs_of::run(rt, words, target);
-    }
-    if is_word(rt, 1, b"run-strip") {
-        return runs_of::run_strip(rt, words, target);
-    }
-    if target != 0 {
-        return false;
-    }
-    if is_word(rt, 1, b"check") {
-        return checks::check(rt, words);
-    }
-    if is_word(rt, 1, b"check-strip") {
-        return words == 3 && checks::check_strip(rt);
-    }
-    if is_word(rt, 1, b"list") {
-        return words == 3 && checks::list(rt);
-    }
-    if is_word(rt, 1, b"help") {
-        usage(&rt.stdout());
-        help(rt);
-        return true;
-    }
-    false
 }
 
 fn main(rt: HostRuntime) {
-    let count = count(rt);
-    let mut words = count;
-    let mut target = 0;
-    if 3 < count && is_word(rt, count - 2, b"-o") {
-        words = count - 2;
-        target = count - 1;
-    }
-    if !obey(rt, words, target) {
-        usage(&rt.stderr());
+    match Command::parse(rt) {
+        // a file that can't be read or written has been told
+        Some(command) => {
+            let _ = obey(rt, command);
+        }
+        None => usage(&rt.stderr()),
     }
 }

@@ -1,13 +1,13 @@
 // A refusal: document 01's line, then the words for it.
 use answers::Answer;
-use command::refusals::explain;
+use command::refusals::{Files, explain};
 use kinds::Kinds;
-use terminal::say;
+use terminal::say_bytes;
 
-// The first file is the book or the strip.
-pub fn refuse(rt: HostRuntime, answer: Answer, first: &[u8], board: &[u8]) {
+// Says why a file is refused.
+pub fn refuse(rt: HostRuntime, answer: Answer, files: Files) {
     let mut line = [0; 64];
-    let end = screen::text(answer, Kinds::none(), board, &mut line);
-    say(rt, &line[..end]);
-    explain(rt, answer, first, board);
+    let end = screen::text(answer, Kinds::none(), files.board, &mut line);
+    say_bytes(rt, &line[..end]);
+    explain(rt, answer, files);
 }

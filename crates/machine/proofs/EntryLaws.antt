@@ -1,5 +1,5 @@
 -- The entry: what is known once the files are judged, the board that is loaded, and what is written. One law for each answer.
-use Rattle.std.specs.Prelude.{if◌then◌else◌}
+use Rattle.std.specs.Prelude.{if◌then◌else◌, Ok, Err}
 use Prim.Native.Nat.{ℕ, zero, suc, ◌+◌, ◌*◌, ◌/◌, ◌≤◌, ◌<◌}
 use native.Mathlib.Omega.{arith}
 use mathlib.Core.Path.{◌≡◌, refl, sym, ap, ◌∙◌, subst}
@@ -14,14 +14,16 @@ use Rattle.meaning.specs.Basics.{All}
 use Rattle.meaning.specs.Facts.{Kind, Fact, Board, most_kinds, longest_board}
 use Rattle.meaning.specs.Words.{Word, strip_kinds, run_strip}
 use Rattle.meaning.specs.WellFormed.{GoodKind, GoodFact}
-use Rattle.files.specs.Numbers.{strip, board}
+use Rattle.files.specs.Numbers.{SHORT, strip, board, output, refusal}
 use Rattle.files.specs.Judge.{Bytes, accepted, told}
 use Rattle.files.specs.Board.{judge_board}
 use Rattle.files.specs.Strip.{word_bytes, words_at, judge_strip}
 use Rattle.files.specs.InPlace.{byte_at, board_at}
-use Rattle.files.specs.Entries.{bytes_after, Gives, tells_nothing, run_outcome, run_strip_file}
+use Rattle.files.specs.Entries.{bytes_after, Gives, run_outcome, run_strip_file}
 use Rattle.encoding.specs.Bytes.{bytes_of}
-use Rattle.encoding.specs.Telling.{told-accepted, told-refused}
+use Rattle.answers.specs.Refused.{refusal_answer, about, told_by}
+use Rattle.answers.specs.RefusedLaws.{checked_accepted, gives_refused}
+use Rattle.answers.specs.declared.Refusal.{Refusal}
 use Rattle.encoding.specs.Boards.{board-accepted, board_in_place}
 use Rattle.encoding.specs.Strips.{strip_in_place, strip_size, strip_accepted}
 use Rattle.encoding.specs.Steps.{strip_kinds_good}
@@ -30,19 +32,14 @@ use Rattle.kinds.specs.Listed.{kinds_of, with_kind}
 use Rattle.rows.specs.declared.Count.{Count}
 use Rattle.rows.specs.Loads.{BoardLoaded}
 use Rattle.rows.specs.Writes.{written_board, BoardWritten}
-use Rattle.board.specs.declared.BoardChecked.{BoardChecked}
-use Rattle.board.specs.Told.{board_told}
-use Rattle.strip.specs.declared.StripChecked.{StripChecked}
-use Rattle.strip.specs.Told.{strip_told}
 use Rattle.strip.specs.Leading.{leading_from, leading_kinds}
 use Rattle.strip.specs.LeadingLaws.{accepted-kinds}
 use Rattle.runs.specs.declared.Ran as R
 use Rattle.runs.specs.declared.Ended.{Ended}
 use Rattle.runs.specs.Runs.{board_in, RunEnds, ended_answer}
 use Rattle.runs.specs.Entry.{no_kinds, no_numbers, loaded, sized_loaded, cards_loaded, notices_loaded, good_loaded, run-written}
-use Rattle.machine.specs.declared.run.StripRan.TheVariants as A
 use Rattle.machine.specs.Firings.{Declared, Playable}
-use Rattle.machine.specs.Entry.{BothAccepted, strip_answer}
+use Rattle.machine.specs.Entry.{BothAccepted}
 
 -- ---- loading, running, writing
 
@@ -108,16 +105,15 @@ leading_few : (file : List ℕ) → (leading_kinds file).count ≤ most_kinds
 unfolding leading_kinds
 leading_few file = from_few file (length file / word_bytes) 0 _ (omega arith)
 
-module _ (strip_file board_file : List ℕ) (limit allowance : ℕ) (out : List ℕ) (first : StripChecked) (t₁ : strip_told first ≡ told (judge_strip strip_file))
-    (ok₁ : Bool) (f₁ : ok₁ ≡ tells_nothing (strip_told first)) where
-  pub strip_refused : not ok₁ ≡ true → Gives (run_strip_file strip_file board_file limit allowance (length out)) out (strip_answer (A.Strip first)) out
+module _ (strip_file board_file : List ℕ) (limit allowance : ℕ) (out : List ℕ) where
+  pub strip_refused : (r : Refusal) → told_by (Err r) ≡ about strip (told (judge_strip strip_file))
+      → Gives (run_strip_file strip_file board_file limit allowance (length out)) out (refusal_answer r) out
   unfolding run_strip_file
-  strip_refused e = rw t₁ (told-refused strip (judge_strip strip_file) _ out (sym (f₁ ∙ ap tells_nothing t₁) ∙ not-true ok₁ e))
+  strip_refused r e = gives_refused strip (judge_strip strip_file) _ out r e
 
-  module _ (g₁ : not ok₁ ≡ false) (kinds : Kinds) (k : kinds ≡ leading_kinds strip_file)
-      (second : BoardChecked) (t₂ : board_told second ≡ told (judge_board (kinds_of kinds) board_file)) (ok₂ : Bool) (f₂ : ok₂ ≡ tells_nothing (board_told second)) where
+  module _ (t₁ : told_by (Ok tt) ≡ about strip (told (judge_strip strip_file))) (kinds : Kinds) (k : kinds ≡ leading_kinds strip_file) where
     judged : (w : List Word) × (judge_strip strip_file ≡ accepted w)
-    judged = told-accepted (judge_strip strip_file) (sym (f₁ ∙ ap tells_nothing t₁) ∙ not-false ok₁ g₁)
+    judged = checked_accepted strip (judge_strip strip_file) t₁
 
     place : words_at strip_file ≡ judged.0
     place = strip_in_place strip_file judged.0 judged.1
@@ -125,15 +121,16 @@ module _ (strip_file board_file : List ℕ) (limit allowance : ℕ) (out : List 
     kinds_are : strip_kinds judged.0 ≡ kinds_of kinds
     kinds_are = sym (ap kinds_of k ∙ accepted-kinds strip_file judged.0 judged.1)
 
-    pub board-refused : not ok₂ ≡ true → Gives (run_strip_file strip_file board_file limit allowance (length out)) out (strip_answer (A.Board second)) out
+    pub board-refused : (r : Refusal) → told_by (Err r) ≡ about board (told (judge_board (kinds_of kinds) board_file))
+        → Gives (run_strip_file strip_file board_file limit allowance (length out)) out (refusal_answer r) out
     unfolding run_strip_file
-    board-refused e = rw (judged.1, kinds_are, t₂) (told-refused board (judge_board (kinds_of kinds) board_file) _ out (sym (f₂ ∙ ap tells_nothing t₂) ∙ not-true ok₂ e))
+    board-refused r e = rw (judged.1, kinds_are) (gives_refused board (judge_board (kinds_of kinds) board_file) _ out r e)
 
-    module _ (g₂ : not ok₂ ≡ false) where
+    module _ (t₂ : told_by (Ok tt) ≡ about board (told (judge_board (kinds_of kinds) board_file))) where
       judged₂ : (b : Board) × (judge_board (kinds_of kinds) board_file ≡ accepted b)
-      judged₂ = told-accepted (judge_board (kinds_of kinds) board_file) (sym (f₂ ∙ ap tells_nothing t₂) ∙ not-false ok₂ g₂)
+      judged₂ = checked_accepted board (judge_board (kinds_of kinds) board_file) t₂
 
-      pub too_short : length out < longest_board → Gives (run_strip_file strip_file board_file limit allowance (length out)) out (strip_answer A.Short) out
+      pub too_short : length out < longest_board → Gives (run_strip_file strip_file board_file limit allowance (length out)) out (refusal output SHORT 0) out
       unfolding run_strip_file bytes_after
       too_short l = rw (judged.1, kinds_are, judged₂.1, lt-ltb (length out) longest_board l) (record { answer = refl; bytes = refl })
 
@@ -157,6 +154,6 @@ module _ (strip_file board_file : List ℕ) (limit allowance : ℕ) (out : List 
             }
 
         pub run-made : (r : Ended) (out₁ : List ℕ) → Gives (run_outcome (run_strip (words_at strip_file) limit allowance (board_at board_file (kinds_of kinds)))) out (ended_answer r) out₁
-            → Gives (run_strip_file strip_file board_file limit allowance (length out)) out (strip_answer (A.Ended r)) out₁
+            → Gives (run_strip_file strip_file board_file limit allowance (length out)) out (ended_answer r) out₁
         unfolding run_strip_file
         run-made r out₁ g = rw (judged.1, kinds_are, judged₂.1, le-ltb (length out) longest_board l) (rw (place, board-is) at g)

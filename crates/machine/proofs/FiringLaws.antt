@@ -1,5 +1,5 @@
 -- A firing: the made facts that are laid out settle as the definition says; an attempt that ends with a firing leaves rows of declared kinds.
-use Rattle.std.specs.Prelude.{if◌then◌else◌}
+use Rattle.std.specs.Prelude.{if◌then◌else◌, Option, Some, None}
 use Prim.Native.Nat.{ℕ, zero, suc, ◌+◌, ◌-◌, ◌*◌, ◌≤◌, ◌<◌}
 use native.Mathlib.Nat.{add-zero, zero-add}
 use native.Mathlib.Omega.{arith}
@@ -17,8 +17,6 @@ use Rattle.files.specs.Strip.{words_at}
 use Rattle.kinds.specs.declared.Kinds.{Kinds}
 use Rattle.kinds.specs.Listed.{kinds_of}
 use Rattle.rows.specs.declared.Count.{Count}
-use Rattle.settling.specs.declared.Settled.{Settled}
-use Rattle.settling.specs.declared.Settled.TheVariants as S
 use Rattle.rows.specs.Held.{notices_from, Sized, fact_in, facts_from}
 use Rattle.rows.specs.HeldLaws.{facts_of_rows, facts-length}
 use Rattle.settling.specs.Settles.{used_in, BoardSettled}
@@ -26,7 +24,7 @@ use Rattle.settling.specs.SettlesLaws.{settled_sized, settled_few, settled_full,
 use Rattle.runs.specs.Runs.{board_in}
 use Rattle.machine.specs.declared.Turn.{Turn}
 use Rattle.machine.specs.declared.Turn.TheVariants as T
-use Rattle.machine.specs.declared.firing.Look.TheVariants.{Quiet, Full, Spent, Stuck, Fired}
+use Rattle.machine.specs.declared.firing.Look.TheVariants.{Fired}
 use Rattle.machine.specs.Represents.{Parts, used_of, Counted}
 use Rattle.machine.specs.Bursts.{attempt_by, Ready, Attempted}
 use Rattle.machine.specs.Firings.{made_facts, ClassLaid, MadeReady, AfterMade, MadeSettled, Declared, AllDeclared, Playable, Looked}
@@ -47,7 +45,7 @@ module _ (kinds : List Kind) (kind numbers : List ℕ) (count : Count) (marks ma
   work = record { used = used_of marks; made = made_facts kinds made_kind made_numbers (cards + notices) }
 
   -- "If that exceeds 256 cards or 128 notices": the notices alone are too many
-  pub made-over : 128 - count.notices < notices → MadeSettled kinds kind numbers count marks made_kind made_numbers cards notices kind numbers S.Full
+  pub made-over : 128 - count.notices < notices → MadeSettled kinds kind numbers count marks made_kind made_numbers cards notices kind numbers None
   made-over h =
       let board = board_in kinds kind numbers count in
       let after = board_after kinds board work in
@@ -60,7 +58,7 @@ module _ (kinds : List Kind) (kind numbers : List ℕ) (count : Count) (marks ma
       (c : ClassLaid kinds true made_kind made_numbers (cards + notices) 0 card_kind₀ card_numbers₀ card_kind card_numbers)
       (n : ClassLaid kinds false made_kind made_numbers (cards + notices) (256 + count.notices) kind numbers kind₁ numbers₁)
       (used : List ℕ) (marked : (row : ℕ) → row < 256 → used_in used row ≡ used_of marks row)
-      (kind₂ numbers₂ : List ℕ) (r : Settled)
+      (kind₂ numbers₂ : List ℕ) (r : Option Count)
       (settled : BoardSettled kind₁ numbers₁ count used card_kind card_numbers (record { cards = cards; notices = notices }) kind₂ numbers₂ r) where
     abbrev made : Count
     made = record { cards = cards; notices = notices }
@@ -86,11 +84,11 @@ module _ (kinds : List Kind) (kind numbers : List ℕ) (count : Count) (marks ma
     sized_then : Sized kind₁ numbers₁
     sized_then = record { rows = n.rows ∙ ready.sized.rows; places = n.places ∙ ready.sized.places }
 
-    after-made : (s : Settled) → BoardSettled kind₁ numbers₁ count used card_kind card_numbers made kind₂ numbers₂ s → AfterMade kinds kind numbers count kind₂ numbers₂ s
-    after-made S.Full b =
+    after-made : (s : Option Count) → BoardSettled kind₁ numbers₁ count used card_kind card_numbers made kind₂ numbers₂ s → AfterMade kinds kind numbers count kind₂ numbers₂ s
+    after-made None b =
         let e = settled_full kind₁ numbers₁ count used card_kind card_numbers made kind₂ numbers₂ b in
         ap₂ (λ (k l : List ℕ). board_in kinds k l count) e.0 e.1 ∙ board_kept
-    after-made (S.Fired after) b = settled_few kind₁ numbers₁ count used card_kind card_numbers made kind₂ numbers₂ after b
+    after-made (Some after) b = settled_few kind₁ numbers₁ count used card_kind card_numbers made kind₂ numbers₂ after b
 
     pub made_settled : MadeSettled kinds kind numbers count marks made_kind made_numbers cards notices kind₂ numbers₂ r
     made_settled = record {
@@ -192,59 +190,30 @@ module _ (strip : List ℕ) (kinds : Kinds) (kind numbers : List ℕ) (count : C
     counts : Counted K q
     counts = subst (λ (l : List Kind). Counted l q) (sym p.known.listed) a.counted
 
-    pub look_spent : (next : ℕ) → turn ≡ T.Go next → Looked strip allowance K kind numbers count Spent kind numbers
-    look_spent next e = record { is = attempted ∙ ap (λ (t : Turn). attempt_by K board t q) e; stays = refl; cards = p.cards; notices = p.notices; sized = p.sized; declared = p.declared }
-
-    pub look_quiet : turn ≡ T.Quiet → Looked strip allowance K kind numbers count Quiet kind numbers
-    look_quiet e = record { is = attempted ∙ ap (λ (t : Turn). attempt_by K board t q) e; stays = refl; cards = p.cards; notices = p.notices; sized = p.sized; declared = p.declared }
-
-    pub look_full : turn ≡ T.Full → Looked strip allowance K kind numbers count Full kind numbers
-    look_full e = record { is = attempted ∙ ap (λ (t : Turn). attempt_by K board t q) e; stays = refl; cards = p.cards; notices = p.notices; sized = p.sized; declared = p.declared }
-
-    pub look_stuck : turn ≡ T.Stuck → Looked strip allowance K kind numbers count Stuck kind numbers
-    look_stuck e = record { is = attempted ∙ ap (λ (t : Turn). attempt_by K board t q) e; stays = refl; cards = p.cards; notices = p.notices; sized = p.sized; declared = p.declared }
-
     module _ (cards notices : ℕ) (c : cards ≡ q.made_cards) (n : notices ≡ q.made_notices) where
       all_made : cards + notices ≡ q.made_cards + q.made_notices
       all_made = omega arith
 
-      pub fire_ready : MadeReady K kind numbers count q.made_kind q.made_numbers cards notices
-      fire_ready = record {
-        sized = p.sized;
-        few_cards = p.cards;
-        few_notices = p.notices;
-        cards_are = c ∙ counts.cards ∙ ap (λ (m : ℕ). length (of_class K true (made_facts K q.made_kind q.made_numbers m))) (sym all_made);
-        notices_are = n ∙ counts.notices ∙ ap (λ (m : ℕ). length (of_class K false (made_facts K q.made_kind q.made_numbers m))) (sym all_made);
-        cards_size = omega (arith, counts.cards_size);
-        notices_size = omega (arith, counts.notices_size);
-        declared = λ j h. counts.declared j (omega arith);
-      }
-
       abbrev did : Work
       did = record { used = used_of q.marks; made = made_facts K q.made_kind q.made_numbers (cards + notices) }
 
-      module _ (rule : ℕ) (e : turn ≡ T.Fire rule) (kind' numbers' : List ℕ) (r : Settled)
+      module _ (rule : ℕ) (e : turn ≡ T.Fire rule) (kind' numbers' : List ℕ) (r : Option Count)
           (s : MadeSettled K kind numbers count q.marks q.made_kind q.made_numbers cards notices kind' numbers' r) where
         settles : attempt (words_at strip) allowance board ≡ done (settle K board rule did)
         settles =
             attempted ∙ ap (λ (t : Turn). attempt_by K board t q) e
             ∙ ap (λ (m : ℕ). done (settle K board rule (record { used = used_of q.marks; made = made_facts K q.made_kind q.made_numbers m }))) (sym all_made)
 
-        firing : (x : Settled) → r ≡ x → attempt (words_at strip) allowance board ≡ done (firing_of K kind' numbers' rule x)
-        firing x g = settles ∙ ap done (sym (s.is rule)) ∙ ap (λ (y : Settled). done (firing_of K kind' numbers' rule y)) g
+        firing : (x : Option Count) → r ≡ x → attempt (words_at strip) allowance board ≡ done (firing_of K kind' numbers' rule x)
+        firing x g = settles ∙ ap done (sym (s.is rule)) ∙ ap (λ (y : Option Count). done (firing_of K kind' numbers' rule y)) g
 
-        pub look_over : r ≡ S.Full → Looked strip allowance K kind numbers count Full kind' numbers'
-        look_over g =
-            let same : board_in K kind' numbers' count ≡ board = subst (AfterMade K kind numbers count kind' numbers') g s.board in
-            record { is = firing S.Full g; stays = same; cards = p.cards; notices = p.notices; sized = s.sized; declared = subst (AllDeclared K) (sym same) p.declared }
-
-        pub look_fired : (after : Count) → r ≡ S.Fired after → Looked strip allowance K kind numbers count (Fired rule after) kind' numbers'
+        pub look_fired : (after : Count) → r ≡ Some after → Looked strip allowance K kind numbers count (Fired rule after) kind' numbers'
         look_fired after g =
             let few : (after.cards ≤ most_cards) × (after.notices ≤ most_notices) = subst (AfterMade K kind numbers count kind' numbers') g s.board in
             let made : Declared K did.made = facts_declared K q.made_kind q.made_numbers 0 (cards + notices) (λ i h. subst (λ (x : ℕ). get_or q.made_kind x 0 < length K) (sym (zero-add i)) (counts.declared i (omega arith))) in
             let is : fired rule (board_in K kind' numbers' after) ≡ settle K board rule did = ap (firing_of K kind' numbers' rule) (sym g) ∙ s.is rule in
             record {
-              is = firing (S.Fired after) g;
+              is = firing (Some after) g;
               stays = tt;
               cards = few.0;
               notices = few.1;

@@ -1,5 +1,6 @@
 -- The run over the arrays, attempt after attempt: the board may be played, and to go on from it is the whole run.
 use Prim.Native.Nat.{ℕ, ◌+◌, ◌≤◌, ◌<◌}
+use native.Mathlib.Omega.{arith}
 use mathlib.Core.Path.{◌≡◌, ap, ◌∙◌, subst}
 use mathlib.Core.List.{List}
 use Rattle.meaning.specs.Facts.{Kind, Board}
@@ -13,7 +14,7 @@ use Rattle.runs.specs.declared.End.{End}
 use Rattle.runs.specs.declared.End.TheVariants as E
 use Rattle.runs.specs.declared.Ran as R
 use Rattle.runs.specs.Runs.{end_of, board_in, RunEnds, ran_with}
-use Rattle.runs.specs.Repeats.{Going, going_start, going_limit, going_by, going_on}
+use Rattle.runs.specs.Repeats.{Going, going_limit, going_by, going_on}
 use Rattle.machine.specs.declared.firing.Look.{Look}
 use Rattle.machine.specs.declared.firing.Look.TheVariants as L
 use Rattle.machine.specs.Firings.{Playable, attempt_of, Stays, Looked}
@@ -21,11 +22,6 @@ use Rattle.machine.specs.Firings.{Playable, attempt_of, Stays, Looked}
 pub record Running (strip : List ℕ) (kinds : Kinds) (allowance : ℕ) (start : Board) (limit : ℕ) (kind numbers : List ℕ) (count : Count) (firings rule : ℕ) : Type 0 where
   pub playable : Playable strip kinds kind numbers count
   pub going : Going (attempt (words_at strip) allowance) start limit (board_in (kinds_of kinds) kind numbers count) firings rule
-
-pub run-start : (strip : List ℕ) (kinds : Kinds) (allowance limit : ℕ) (kind numbers : List ℕ) (count : Count) → Playable strip kinds kind numbers count
-    → Running strip kinds allowance (board_in (kinds_of kinds) kind numbers count) limit kind numbers count 0 255
-run-start strip kinds allowance limit kind numbers count p =
-    record { playable = p; going = going_start (attempt (words_at strip) allowance) limit (board_in (kinds_of kinds) kind numbers count) }
 
 module _ (strip : List ℕ) (kinds : Kinds) (allowance : ℕ) (start : Board) (limit : ℕ) (kind numbers : List ℕ) (count : Count) (firings rule : ℕ)
     (s : Running strip kinds allowance start limit kind numbers count firings rule) where
@@ -38,14 +34,16 @@ module _ (strip : List ℕ) (kinds : Kinds) (allowance : ℕ) (start : Board) (l
   abbrev whole : Ran
   whole = run_strip (words_at strip) limit allowance start
 
-  pub run_limit : limit ≤ firings → (r : R.Ran) → r ≡ ran_with E.Limit count firings rule → RunEnds whole K kind numbers r
+  pub run_limit : limit ≤ firings → firings ≤ limit → (r : R.Ran) → r ≡ ran_with E.Limit count limit rule → RunEnds whole K kind numbers r
   unfolding run_strip
-  run_limit h r q = rw q (record {
-    is = going_limit (attempt (words_at strip) allowance) start limit before firings rule s.going h;
-    cards = s.playable.cards;
-    notices = s.playable.notices;
-    sized = s.playable.sized;
-  })
+  run_limit h m r q =
+      let all : firings ≡ limit = omega arith in
+      rw q (subst (λ (n : ℕ). RunEnds whole K kind numbers (ran_with E.Limit count n rule)) all (record {
+        is = going_limit (attempt (words_at strip) allowance) start limit before firings rule s.going h;
+        cards = s.playable.cards;
+        notices = s.playable.notices;
+        sized = s.playable.sized;
+      }))
 
   module _ (h : firings < limit) (look : Look) (kind' numbers' : List ℕ) (l : Looked strip allowance (kinds_of kinds) kind numbers count look kind' numbers') where
     -- an attempt that ends the run: the board stays

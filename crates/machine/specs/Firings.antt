@@ -1,5 +1,5 @@
 -- One firing over the arrays: the made facts laid out by their class, the board after them, what a firing may be asked of and what it answers.
-use Rattle.std.specs.Prelude.{◌≡◌, ℕ, ◌+◌, ◌*◌, ◌≤◌, ◌<◌, Bool, true, false, List, length, get_or}
+use Rattle.std.specs.Prelude.{◌≡◌, ℕ, ◌+◌, ◌*◌, ◌≤◌, ◌<◌, Bool, true, false, List, length, get_or, Option, Some, None}
 use Rattle.meaning.specs.Basics.{All}
 use Rattle.meaning.specs.Facts.{Kind, Fact, Board, most_kinds, most_cards, most_notices}
 use Rattle.meaning.specs.Firing.{of_class, settle, quiet, full, fired, Attempt, done, spent, stuck}
@@ -9,8 +9,6 @@ use Rattle.files.specs.Strip.{words_at}
 use Rattle.kinds.specs.declared.Kinds.{Kinds}
 use Rattle.kinds.specs.Listed.{kinds_of}
 use Rattle.rows.specs.declared.Count.{Count}
-use Rattle.settling.specs.declared.Settled.{Settled}
-use Rattle.settling.specs.declared.Settled.TheVariants as S
 use Rattle.rows.specs.Held.{Sized, rows_from, facts_from}
 use Rattle.settling.specs.SettlesLaws.{firing_of}
 use Rattle.runs.specs.Runs.{board_in}
@@ -45,12 +43,12 @@ pub record MadeReady (kinds : List Kind) (kind numbers : List ℕ) (count : Coun
   pub declared : (j : ℕ) → j < cards + notices → get_or made_kind j 0 < length kinds
 
 -- nothing fired: the board is as it was; else so many rows fit the arrays
-abbrev pub AfterMade : List Kind → List ℕ → List ℕ → Count → List ℕ → List ℕ → Settled → Type 0
-AfterMade kinds kind numbers count kind' numbers' S.Full = board_in kinds kind' numbers' count ≡ board_in kinds kind numbers count
-AfterMade kinds kind numbers count kind' numbers' (S.Fired after) = (after.cards ≤ most_cards) × (after.notices ≤ most_notices)
+abbrev pub AfterMade : List Kind → List ℕ → List ℕ → Count → List ℕ → List ℕ → Option Count → Type 0
+AfterMade kinds kind numbers count kind' numbers' None = board_in kinds kind' numbers' count ≡ board_in kinds kind numbers count
+AfterMade kinds kind numbers count kind' numbers' (Some after) = (after.cards ≤ most_cards) × (after.notices ≤ most_notices)
 
 -- the firing is that of the used cards and the made facts, whatever rule it is of
-pub record MadeSettled (kinds : List Kind) (kind numbers : List ℕ) (count : Count) (marks made_kind made_numbers : List ℕ) (cards notices : ℕ) (kind' numbers' : List ℕ) (r : Settled) : Type 0 where
+pub record MadeSettled (kinds : List Kind) (kind numbers : List ℕ) (count : Count) (marks made_kind made_numbers : List ℕ) (cards notices : ℕ) (kind' numbers' : List ℕ) (r : Option Count) : Type 0 where
   pub is : (rule : ℕ) → firing_of kinds kind' numbers' rule r ≡ settle kinds (board_in kinds kind numbers count) rule (record { used = used_of marks; made = made_facts kinds made_kind made_numbers (cards + notices) })
   pub board : AfterMade kinds kind numbers count kind' numbers' r
   pub sized : Sized kind' numbers'
@@ -78,14 +76,6 @@ pub record Playable (strip : List ℕ) (kinds : Kinds) (kind numbers : List ℕ)
   pub cards : count.cards ≤ most_cards
   pub notices : count.notices ≤ most_notices
   pub declared : AllDeclared (kinds_of kinds) (board_in (kinds_of kinds) kind numbers count)
-
--- the arrays that are lent for chains, for made facts, and for the made cards alone
-pub record Lent (next made_kind made_numbers card_kind card_numbers : List ℕ) : Type 0 where
-  pub chain_rows : length next ≡ 384
-  pub rows : length made_kind ≡ 384
-  pub places : length made_numbers ≡ 1536
-  pub card_rows : length card_kind ≡ 256
-  pub card_places : length card_numbers ≡ 1024
 
 -- the attempt that the answer stands for, with the board that the arrays hold afterwards
 abbrev pub attempt_of : List Kind → List ℕ → List ℕ → Look → Attempt

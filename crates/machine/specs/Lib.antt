@@ -1,3 +1,4 @@
+pub mod Fields
 pub mod Places
 pub mod Represents
 pub mod Effects

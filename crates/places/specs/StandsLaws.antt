@@ -5,10 +5,12 @@ use Rattle.std.proofs.Common.{add-zero, zero-add, arith, sym, ◌∙◌, ltb-tru
 use Rattle.std.proofs.Math.Path.{ap}
 use Rattle.std.proofs.Math.ListN.{get_or-eq_default}
 use Rattle.meaning.specs.Facts.{Kind, longest_book, most_in_rule, most_in_sweep, most_sweeps}
-use Rattle.meaning.specs.Rules.{Atom, Test}
+use Rattle.meaning.specs.Rules.{constant, variable, Atom, equal, unequal, less, less_or_equal, Test}
 use Rattle.files.specs.Marks.{is_mark, RU, BA, TE, HE, SW}
-use Rattle.files.specs.InPlace.{byte_at, term_of, term_at, test_at, atom_at, groups_at, rule_at, comparison_of, Read, prepend, records_at}
-use Rattle.places.specs.Stands.{mark_stands, term_stands, test_stands, atom_end, records_from, atoms_from, tests_from, conditions_of, conditions_from, groups_end, sweeps_from, rule_end, rules_from}
+use Rattle.files.specs.InPlace.{byte_at, two_at, term_at, test_at, atom_at, groups_at, rule_at, comparison_of, Read, prepend, records_at}
+use Rattle.places.specs.Stands.{mark_stands, term_said, comparison_said, term_stands, comparison_stands, test_stands, atom_end, records_from, atoms_from, tests_from, conditions_of, conditions_from, groups_end, sweeps_from, rule_end, rules_from}
+use Rattle.places.specs.declared.Term.TheVariants as T
+use Rattle.places.specs.declared.Comparison.TheVariants as C
 use Rattle.places.specs.declared.Span.{Span}
 use Rattle.places.specs.declared.Conditions.{Conditions}
 
@@ -59,13 +61,26 @@ from_is {A} file mark after item short letter ends (suc left) n p =
     by true read h = h
     by false read h = ap (λ (k : ℕ). record { count = k; next = p }) (sym (add-zero n))
 
--- the fields are those of the term and of the test that InPlace reads
-pub term_is : (file : List ℕ) (p : ℕ) → term_of (term_stands file p).tag (term_stands file p).value ≡ term_at file p
-term_is file p = refl
+-- the term and the test say what InPlace reads
+pub term_is : (file : List ℕ) (p : ℕ) → term_said (term_stands file p) ≡ term_at file p
+term_is file p = by (eqb (byte_at file p) 0)
+  where
+    by : (t : Bool) → term_said (if t then T.Constant (two_at file (p + 1)) else T.Variable (two_at file (p + 1))) ≡ (if t then constant (two_at file (p + 1)) else variable (two_at file (p + 1)))
+    by true = refl
+    by false = refl
+
+comparison_is : (number : ℕ) → comparison_said (comparison_stands number) ≡ comparison_of number
+comparison_is number = by (eqb number 0) (eqb number 1) (eqb number 2)
+  where
+    by : (t u v : Bool) → comparison_said (if t then C.Equal else if u then C.Unequal else if v then C.Less else C.LessOrEqual) ≡ (if t then equal else if u then unequal else if v then less else less_or_equal)
+    by true u v = refl
+    by false true v = refl
+    by false false true = refl
+    by false false false = refl
 
 pub test-is : (file : List ℕ) (p : ℕ) → p < longest_book → let t = test_stands file p in
-    record { comparison = comparison_of t.number; left = term_of t.left.tag t.left.value; right = term_of t.right.tag t.right.value } ≡ (test_at file p).value
-test-is file p near = rw (lt-ltb p longest_book near)
+    record { comparison = comparison_said t.comparison; left = term_said t.left; right = term_said t.right } ≡ (test_at file p).value
+test-is file p near = rw (lt-ltb p longest_book near, comparison_is (byte_at file p), term_is file (p + 1), term_is file (p + 4))
 
 -- ---- groups, sweeps and rules
 

@@ -2,24 +2,33 @@
 #![tactic(auto)]
 
 ghost use Rattle.std.specs.Prelude.{◌≡◌, ℕ, ◌+◌, ◌*◌, ◌≤◌, ◌<◌, length};
+ghost use Rattle.meaning.specs.Facts.{longest_book};
 ghost use Rattle.kinds.specs.Listed.{kinds_of};
-ghost use Rattle.places.specs.Stands.{mark_stands, term_stands, test_stands, atom_size, atoms_from, tests_from, conditions_from, groups_end, sweeps_from, rule_end, rules_from};
+ghost use Rattle.places.specs.Stands.{mark_stands, term_stands, comparison_stands, test_stands, atom_size, Computes, records_from, atoms_from, tests_from, conditions_from, groups_end, sweeps_from, rule_end, rules_from};
 
 use book::Book;
 use fields::{byte_at, two_at};
 use kinds::Kinds;
 
-// A term: its tag (0 constant, 1 variable) and its value.
-#[derive(Clone, Copy)]
-pub struct Term {
-    pub tag: u8,
-    pub value: u16,
+// A term: a constant, or a variable by its number.
+#[derive(Clone, Copy, Debug, PartialEq, Eq)]
+pub enum Term {
+    Constant(u16),
+    Variable(u16),
 }
 
-// A test: its number (0 equal, 1 unequal, 2 less, 3 less or equal) and its terms.
-#[derive(Clone, Copy)]
+// How a test compares its terms.
+#[derive(Clone, Copy, Debug, PartialEq, Eq)]
+pub enum Comparison {
+    Equal,
+    Unequal,
+    Less,
+    LessOrEqual,
+}
+
+#[derive(Clone, Copy, Debug, PartialEq, Eq)]
 pub struct Test {
-    pub number: u8,
+    pub comparison: Comparison,
     pub left: Term,
     pub right: Term,
 }
@@ -41,33 +50,35 @@ pub struct Conditions {
     pub heads_at: usize,
 }
 
-// A byte as a size.
-fn wide(byte: u8) -> usize
-    ensures { (result ≡ byte) × (result < 256) }
-{
-    byte as usize
+// By the number of a test; a number above 3, which no accepted book has, is read as 3.
+impl From<u8> for Comparison {
+    ghost from_gives = { λ number comparison. comparison ≡ comparison_stands number };
+
+    fn from(number: u8) -> Comparison {
+        match number {
+            0 => Comparison::Equal,
+            1 => Comparison::Unequal,
+            2 => Comparison::Less,
+            _ => Comparison::LessOrEqual,
+        }
+    }
 }
 
 // Does a record with the mark stand at the place? Past the longest book none does.
 pub fn is_marked(book: &[u8], at: usize, mark: &[u8; 2]) -> bool
     ensures { result ≡ mark_stands book.now mark.now at }
 {
-    if Book::LONGEST <= at {
-        return false;
-    }
-    byte_at(book, at) == mark[0] && byte_at(book, at + 1) == mark[1]
+    at < Book::LONGEST && byte_at(book, at) == mark[0] && byte_at(book, at + 1) == mark[1]
 }
 
-// The term at a place.
+// The term at a place; past the end the constant 0.
 pub fn term_at(book: &[u8], at: usize) -> Term
     ensures { result ≡ term_stands book.now at }
 {
-    if book.len() <= at {
-        return Term { tag: 0, value: 0 };
-    }
-    Term {
-        tag: byte_at(book, at),
-        value: two_at(book, at + 1),
+    match book.get(at) {
+        None => Term::Constant(0),
+        Some(0) => Term::Constant(two_at(book, at + 1)),
+        Some(_) => Term::Variable(two_at(book, at + 1)),
     }
 }
 
@@ -77,13 +88,13 @@ pub fn test_at(book: &[u8], at: usize) -> Test
 {
     if Book::LONGEST <= at {
         return Test {
-            number: 0,
-            left: Term { tag: 0, value: 0 },
-            right: Term { tag: 0, value: 0 },
+            comparison: Comparison::Equal,
+            left: Term::Constant(0),
+            right: Term::Constant(0),
         };
     }
     Test {
-        number: byte_at(book, at),
+        comparison: Comparison::from(byte_at(book, at)),
         left: term_at(book, at + 1),
         right: term_at(book, at + 4),
     }
@@ -93,44 +104,64 @@ pub fn test_at(book: &[u8], at: usize) -> Test
 pub fn atom_size(book: &[u8], kinds: Kinds, at: usize) -> usize
     ensures { (result ≡ atom_size book.now (kinds_of kinds) at) × (result < 1000) }
 {
-    let arity = wide(kinds.arity_of(byte_at(book, at)));
+    let arity = usize::from(kinds.arity_of(byte_at(book, at)));
     1 + 3 * arity
 }
 
-// The atoms that have the mark, at most so many, from a place on.
-pub fn atoms(book: &[u8], kinds: Kinds, mark: &[u8; 2], most: usize, at: usize) -> Span
-    ensures { result ≡ atoms_from book.now (kinds_of kinds) mark.now most at }
+// The records that have the mark, at most so many, from a place on; `after` tells the place after a record by that of its fields.
+fn records<F: Fn(usize) -> usize>(
+    book: &[u8],
+    mark: &[u8; 2],
+    most: usize,
+    at: usize,
+    after: F,
+) -> Span
+    requires { (p : ℕ) → p < longest_book + 2 → F.pre after p }
+    ensures { (g : ℕ → ℕ) → Computes (F.post after) g → result ≡ records_from book.now mark.now g most 0 at }
 {
-    let mut count = 0;
     let mut next = at;
-    while count < most {
+    for count in 0..most {
         if !is_marked(book, next, mark) {
             return Span { count, next };
         }
-        let size = atom_size(book, kinds, next + 2);
-        next = next + 2 + size;
-        count += 1;
+        next = after(next + 2);
     }
-    Span { count, next }
+    Span { count: most, next }
+}
+
+// The atoms that have the mark, at most so many, from a place on.
+#[tactic(auto, unfolding(crate::specs::Stands::atom_end))]
+pub fn atoms(book: &[u8], kinds: Kinds, mark: &[u8; 2], most: usize, at: usize) -> Span
+    ensures { result ≡ atoms_from book.now (kinds_of kinds) mark.now most at }
+{
+    records(
+        book,
+        mark,
+        most,
+        at,
+        |p|
+            requires { p < longest_book + 2 }
+        { p + atom_size(book, kinds, p) },
+    )
 }
 
 // The tests, at most so many, from a place on.
 pub fn tests(book: &[u8], most: usize, at: usize) -> Span
     ensures { result ≡ tests_from book.now most at }
 {
-    let mut count = 0;
-    let mut next = at;
-    while count < most {
-        if !is_marked(book, next, &Book::TE) {
-            return Span { count, next };
-        }
-        next = next + 9;
-        count += 1;
-    }
-    Span { count, next }
+    records(
+        book,
+        &Book::TE,
+        most,
+        at,
+        |p|
+            requires { p < longest_book + 2 }
+        { p + 7 },
+    )
 }
 
 // A body and its tests, at most so many of each, from a place on.
+#[tactic(auto, unfolding(crate::specs::Stands::conditions_from))]
 pub fn conditions_at(book: &[u8], kinds: Kinds, most: usize, at: usize) -> Conditions
     ensures { result ≡ conditions_from book.now (kinds_of kinds) most at }
 {
@@ -146,6 +177,7 @@ pub fn conditions_at(book: &[u8], kinds: Kinds, most: usize, at: usize) -> Condi
 }
 
 // The place after a body, its tests and its heads, at most so many of each, from a place on.
+#[tactic(auto, unfolding(crate::specs::Stands::groups_end))]
 pub fn groups_end(book: &[u8], kinds: Kinds, most: usize, at: usize) -> usize
     ensures { result ≡ groups_end book.now (kinds_of kinds) most at }
 {
@@ -158,19 +190,17 @@ pub fn groups_end(book: &[u8], kinds: Kinds, most: usize, at: usize) -> usize
 pub fn sweeps(book: &[u8], kinds: Kinds, at: usize) -> Span
     ensures { result ≡ sweeps_from book.now (kinds_of kinds) at }
 {
-    let mut count = 0;
-    let mut next = at;
-    while count < Book::SWEEPS {
-        if !is_marked(book, next, &Book::SW) {
-            return Span { count, next };
-        }
-        next = groups_end(book, kinds, Book::IN_SWEEP, next + 2);
-        count += 1;
-    }
-    Span { count, next }
+    records(
+        book,
+        &Book::SW,
+        Book::SWEEPS,
+        at,
+        |p| groups_end(book, kinds, Book::IN_SWEEP, p),
+    )
 }
 
 // The place after a rule whose body stands at the place.
+#[tactic(auto, unfolding(crate::specs::Stands::rule_end))]
 pub fn rule_end(book: &[u8], kinds: Kinds, at: usize) -> usize
     ensures { result ≡ rule_end book.now (kinds_of kinds) at }
 {
@@ -183,14 +213,5 @@ pub fn rule_end(book: &[u8], kinds: Kinds, at: usize) -> usize
 pub fn rules(book: &[u8], kinds: Kinds, most: usize, at: usize) -> Span
     ensures { result ≡ rules_from book.now (kinds_of kinds) most at }
 {
-    let mut count = 0;
-    let mut next = at;
-    while count < most {
-        if !is_marked(book, next, &Book::RU) {
-            return Span { count, next };
-        }
-        next = rule_end(book, kinds, next + 2);
-        count += 1;
-    }
-    Span { count, next }
+    records(book, &Book::RU, most, at, |p| rule_end(book, kinds, p))
 }

@@ -7,21 +7,24 @@ use mathlib.Core.List.{List}
 use lib.ListN.{length, get_or}
 use mir.Syntax.{w8}
 use mir.Val.{Fits}
-use borrow.Author.Tests.{lt-ltb, le-ltb, not-true, not-false}
+use borrow.Author.Tests.{lt-ltb, le-ltb}
+use Rattle.std.specs.Prelude.{Ok, Err}
 use Rattle.meaning.specs.Basics.{All}
 use Rattle.meaning.specs.WellFormed.{GoodKind}
 use Rattle.meaning.specs.Facts.{Kind, Board, longest_board}
 use Rattle.meaning.specs.Rules.{Book}
 use Rattle.meaning.specs.Firing.{run}
-use Rattle.files.specs.Numbers.{book, board}
+use Rattle.files.specs.Numbers.{SHORT, book, board, output, refusal}
 use Rattle.files.specs.Judge.{Bytes, accepted, told}
 use Rattle.files.specs.Board.{judge_board}
 use Rattle.files.specs.Book.{judge_book}
 use Rattle.files.specs.Encode.{encode_book}
 use Rattle.files.specs.InPlace.{kinds_at, book_at, board_at}
-use Rattle.files.specs.Entries.{bytes_after, Gives, tells_nothing, run_outcome, run_book_file}
+use Rattle.files.specs.Entries.{bytes_after, Gives, run_outcome, run_book_file}
 use Rattle.encoding.specs.Bytes.{bytes_of}
-use Rattle.encoding.specs.Telling.{told-accepted, told-refused}
+use Rattle.answers.specs.Refused.{refusal_answer, about, told_by}
+use Rattle.answers.specs.RefusedLaws.{checked_accepted, gives_refused}
+use Rattle.answers.specs.declared.Refusal.{Refusal}
 use Rattle.encoding.specs.Boards.{board-accepted, board_in_place}
 use Rattle.book_encoding.specs.Accepted.{book_accepted}
 use Rattle.book_encoding.specs.Placed.{book_in_place}
@@ -31,20 +34,15 @@ use Rattle.kinds.specs.Listed.{kinds_of}
 use Rattle.rows.specs.declared.Count.{Count}
 use Rattle.rows.specs.Loads.{BoardLoaded}
 use Rattle.rows.specs.Writes.{written_board, BoardWritten}
-use Rattle.book.specs.declared.BookChecked.{BookChecked}
-use Rattle.book.specs.Told.{book_told}
 use Rattle.book.specs.Kinds.{KindsRead}
-use Rattle.board.specs.declared.BoardChecked.{BoardChecked}
-use Rattle.board.specs.Told.{board_told}
 use Rattle.runs.specs.declared.Ran as R
 use Rattle.runs.specs.declared.Ended.{Ended}
 use Rattle.runs.specs.Runs.{board_in, RunEnds, ended_answer}
 use Rattle.runs.specs.Entry.{no_kinds, no_numbers, loaded, sized_loaded, cards_loaded, notices_loaded, good_loaded, run-written}
 use Rattle.plain.specs.declared.rules.Rules.{Rules}
-use Rattle.plain.specs.declared.run.BookRan.TheVariants as A
 use Rattle.plain.specs.Stands.{places_from}
 use Rattle.plain.specs.Playing.{places_of, Playable}
-use Rattle.plain.specs.Entry.{Ready, book_answer}
+use Rattle.plain.specs.Entry.{Ready}
 
 -- ---- loading, running, writing
 
@@ -89,16 +87,16 @@ module _ (book_file board_file : List ℕ) (kinds : Kinds) (room : ℕ) (ready :
 are_bytes : (file : List ℕ) → ((i : ℕ) → Fits w8 (get_or file i 0)) → Bytes file
 are_bytes file h = bytes_of file (λ i. omega (arith, h i))
 
-module _ (book_file board_file : List ℕ) (limit : ℕ) (out : List ℕ) (first : BookChecked) (t₁ : book_told first ≡ told (judge_book book_file))
-    (ok₁ : Bool) (f₁ : ok₁ ≡ tells_nothing (book_told first)) where
-  pub book_refused : not ok₁ ≡ true → Gives (run_book_file book_file board_file limit (length out)) out (book_answer (A.Book first)) out
+module _ (book_file board_file : List ℕ) (limit : ℕ) (out : List ℕ) where
+  pub book_refused : (r : Refusal) → told_by (Err r) ≡ about book (told (judge_book book_file))
+      → Gives (run_book_file book_file board_file limit (length out)) out (refusal_answer r) out
   unfolding run_book_file
-  book_refused e = rw t₁ (told-refused book (judge_book book_file) _ out (sym (f₁ ∙ ap tells_nothing t₁) ∙ not-true ok₁ e))
+  book_refused r e = gives_refused book (judge_book book_file) _ out r e
 
-  module _ (bytes : (i : ℕ) → Fits w8 (get_or book_file i 0)) (g₁ : not ok₁ ≡ false) (kinds : Kinds) (k : KindsRead book_file kinds)
-      (second : BoardChecked) (t₂ : board_told second ≡ told (judge_board (kinds_of kinds) board_file)) (ok₂ : Bool) (f₂ : ok₂ ≡ tells_nothing (board_told second)) where
+  module _ (bytes : (i : ℕ) → Fits w8 (get_or book_file i 0)) (t₁ : told_by (Ok tt) ≡ about book (told (judge_book book_file))) (kinds : Kinds)
+      (k : KindsRead book_file kinds) where
     judged : (b : Book) × (judge_book book_file ≡ accepted b)
-    judged = told-accepted (judge_book book_file) (sym (f₁ ∙ ap tells_nothing t₁) ∙ not-false ok₁ g₁)
+    judged = checked_accepted book (judge_book book_file) t₁
 
     place : (book_at book_file ≡ judged.0) × ((kinds_at book_file).value ≡ judged.0.kinds)
     place = book_in_place book_file judged.0 (are_bytes book_file bytes) judged.1
@@ -106,15 +104,16 @@ module _ (book_file board_file : List ℕ) (limit : ℕ) (out : List ℕ) (first
     kinds_are : judged.0.kinds ≡ kinds_of kinds
     kinds_are = sym (k.listed ∙ place.1)
 
-    pub board-refused : not ok₂ ≡ true → Gives (run_book_file book_file board_file limit (length out)) out (book_answer (A.Board second)) out
+    pub board-refused : (r : Refusal) → told_by (Err r) ≡ about board (told (judge_board (kinds_of kinds) board_file))
+        → Gives (run_book_file book_file board_file limit (length out)) out (refusal_answer r) out
     unfolding run_book_file
-    board-refused e = rw (judged.1, kinds_are, t₂) (told-refused board (judge_board (kinds_of kinds) board_file) _ out (sym (f₂ ∙ ap tells_nothing t₂) ∙ not-true ok₂ e))
+    board-refused r e = rw (judged.1, kinds_are) (gives_refused board (judge_board (kinds_of kinds) board_file) _ out r e)
 
-    module _ (g₂ : not ok₂ ≡ false) where
+    module _ (t₂ : told_by (Ok tt) ≡ about board (told (judge_board (kinds_of kinds) board_file))) where
       judged₂ : (b : Board) × (judge_board (kinds_of kinds) board_file ≡ accepted b)
-      judged₂ = told-accepted (judge_board (kinds_of kinds) board_file) (sym (f₂ ∙ ap tells_nothing t₂) ∙ not-false ok₂ g₂)
+      judged₂ = checked_accepted board (judge_board (kinds_of kinds) board_file) t₂
 
-      pub too_short : length out < longest_board → Gives (run_book_file book_file board_file limit (length out)) out (book_answer A.Short) out
+      pub too_short : length out < longest_board → Gives (run_book_file book_file board_file limit (length out)) out (refusal output SHORT 0) out
       unfolding run_book_file bytes_after
       too_short l = rw (judged.1, kinds_are, judged₂.1, lt-ltb (length out) longest_board l) (record { answer = refl; bytes = refl })
 
@@ -137,6 +136,6 @@ module _ (book_file board_file : List ℕ) (limit : ℕ) (out : List ℕ) (first
             }
 
         pub run-made : (r : Ended) (out₁ : List ℕ) → Gives (run_outcome (run (book_at book_file) limit (board_at board_file (kinds_of kinds)))) out (ended_answer r) out₁
-            → Gives (run_book_file book_file board_file limit (length out)) out (book_answer (A.Ended r)) out₁
+            → Gives (run_book_file book_file board_file limit (length out)) out (ended_answer r) out₁
         unfolding run_book_file
         run-made r out₁ g = rw (judged.1, kinds_are, judged₂.1, le-ltb (length out) longest_board l) (rw (place.0, board-is) at g)

@@ -1,5 +1,6 @@
 -- The run over the arrays, firing after firing: the board may be played, and to go on from it is the whole run.
 use Prim.Native.Nat.{ℕ, ◌+◌, ◌≤◌, ◌<◌}
+use native.Mathlib.Omega.{arith}
 use mathlib.Core.Path.{◌≡◌, sym, ap, ◌∙◌, subst}
 use mathlib.Core.List.{List}
 use Rattle.meaning.specs.Facts.{Kind, Board}
@@ -35,9 +36,9 @@ module _ (book : List ℕ) (kinds : List Kind) (rules : Rules) (start : Board) (
   abbrev before : Board
   before = board_in kinds kind numbers count
 
-  pub run_limit : limit ≤ firings → (r : R.Ran) → r ≡ ran_with E.Limit count firings rule → RunEnds (run (book_at book) limit start) kinds kind numbers r
+  pub run_limit : limit ≤ firings → firings ≤ limit → (r : R.Ran) → r ≡ ran_with E.Limit count limit rule → RunEnds (run (book_at book) limit start) kinds kind numbers r
   unfolding run
-  run_limit h r q = rw q (record {
+  run_limit h l r q = rw (q ∙ ap (λ n. ran_with E.Limit count n rule) (let e : limit ≡ firings = omega arith in e)) (record {
     is = going_limit (attempts book) start limit before firings rule s.going h;
     cards = s.playable.few_cards;
     notices = s.playable.few_notices;

@@ -1,6 +1,7 @@
 // The plain runner of a rule book.
 #![tactic(auto)]
 
+mod atoms;
 mod firing;
 mod first_atom;
 mod homes;

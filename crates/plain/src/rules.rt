@@ -1,5 +1,5 @@
 // The places of a book's rules, found by one walk over the bytes of an accepted book.
-ghost use Rattle.std.specs.Prelude.{◌≡◌, ◌≤◌, length};
+ghost use Rattle.std.specs.Prelude.{◌≡◌, ◌≤◌, ◌<◌, length, get_or};
 ghost use Rattle.meaning.specs.Facts.{most_kinds, longest_book};
 ghost use Rattle.files.specs.InPlace.{kinds_at};
 ghost use Rattle.kinds.specs.Listed.{kinds_of};
@@ -17,22 +17,34 @@ pub(in crate) struct Rules {
     pub count: usize,
 }
 
+impl Rules {
+    // The place of rule i's body.
+    pub(in crate) fn place(&self, i: usize) -> usize
+        requires { i < 32 }
+        ensures { (result ≡ get_or self.now.at i 0) × (result < 65536) }
+    {
+        let place = self.at[i];
+        place as usize
+    }
+}
+
 // Finds them. Each kind takes four bytes, and the rules come after the kinds.
 pub(in crate) fn rules_of(book: &[u8], kinds: Kinds) -> Rules
     requires { (length book.now ≤ longest_book) × (kinds_of kinds ≡ (kinds_at book.now).value) × (kinds.count ≤ most_kinds) }
     ensures { places_from result.at 0 result.count ≡ places_of book.now }
 {
     let mut at = [0u16; 32];
-    let mut count = 0;
     let mut next = 4 * kinds.count;
-    while count < Book::RULES {
+    for count in 0..Book::RULES {
         if !is_marked(book, next, &Book::RU) {
             return Rules { at, count };
         }
         let place = next + 2;
         at[count] = place as u16;
-        count += 1;
         next = rule_end(book, kinds, place);
     }
-    Rules { at, count }
+    Rules {
+        at,
+        count: Book::RULES,
+    }
 }

@@ -6,71 +6,51 @@ ghost use Rattle.files.specs.InPlace.{book_at, board_at};
 ghost use Rattle.files.specs.Entries.{Gives, run_outcome, run_book_file};
 ghost use Rattle.kinds.specs.Listed.{kinds_of};
 ghost use Rattle.runs.specs.Runs.{board_in, RunEnds, ended_answer};
+ghost use Rattle.runs.specs.Answers.{ran_answer};
 ghost use Rattle.plain.specs.Playing.{Playable};
-ghost use Rattle.plain.specs.Entry.{Ready, book_answer};
+ghost use Rattle.plain.specs.Entry.{Ready};
 
 use crate::firing::{Look, fire};
+use crate::lists::RowLists;
 use crate::rules::{Rules, rules_of};
-use board::{Board, BoardChecked, check_board};
-use book::{BookChecked, check_book};
+use answers::Refusal;
+use board::{Board, check_board};
+use book::check_book;
 use kinds::Kinds;
-use rows::Count;
+use rows::{Count, MadeCards, Rows};
 use runs::{End, Ended, Ran, stopped};
 
-// What the entry answers: the book is refused, or the board, or the output is short; or the run was made.
-#[derive(Clone, Copy)]
-pub enum BookRan {
-    Book(BookChecked),
-    Board(BoardChecked),
-    Short,
-    Ended(Ended),
-}
-
 // Firing after firing, until the limit is reached, no rule fits or the board is full.
-fn run(
-    book: &[u8],
-    kinds: Kinds,
-    rules: Rules,
-    kind: &mut [u8; 384],
-    numbers: &mut [u16; 1536],
-    count: Count,
-    limit: u16,
-) -> Ran
-    requires { Playable book.now (kinds_of kinds) rules kind.old numbers.old count × (kinds.count ≤ most_kinds) }
-    ensures { RunEnds (F.run (book_at book.now) limit (board_in (kinds_of kinds) kind.old numbers.old count)) (kinds_of kinds) kind.new numbers.new result }
+fn run(book: &[u8], kinds: &Kinds, rules: &Rules, rows: &mut Rows, count: Count, limit: u16) -> Ran
+    requires { Playable book.now (kinds_of kinds.now) rules.now rows.old.kind rows.old.numbers count × (kinds.now.count ≤ most_kinds) }
+    ensures { RunEnds (F.run (book_at book.now) limit (board_in (kinds_of kinds.now) rows.old.kind rows.old.numbers count)) (kinds_of kinds.now) rows.new.kind rows.new.numbers result }
 {
-    let mut list = [0u16; 384];
-    let mut made_kind = [0u8; 256];
-    let mut made_numbers = [0u16; 1024];
-    let mut rows = count;
-    let mut firings: u16 = 0;
+    let mut row_lists = RowLists {
+        list: [0; 384],
+        spans: [RowLists::UNMADE; 64],
+        top: 0,
+    };
+    let mut made = MadeCards {
+        kind: [0; 256],
+        numbers: [0; 1024],
+    };
+    let mut held = count;
     let mut rule = Ran::NO_RULE;
-    while firings < limit {
-        match fire(
-            book,
-            kinds,
-            rules,
-            kind,
-            numbers,
-            rows,
-            &mut list,
-            &mut made_kind,
-            &mut made_numbers,
-        ) {
+    for firings in 0..limit {
+        match fire(book, kinds, rules, rows, held, &mut row_lists, &mut made) {
             Look::Quiet => {
-                return stopped(End::Quiet, rows, firings, rule);
+                return stopped(End::Quiet, held, firings, rule);
             }
             Look::Full => {
-                return stopped(End::Full, rows, firings, rule);
+                return stopped(End::Full, held, firings, rule);
             }
             Look::Fired(number, after) => {
-                firings += 1;
                 rule = number;
-                rows = after;
+                held = after;
             }
         }
     }
-    stopped(End::Limit, rows, firings, rule)
+    stopped(End::Limit, held, limit, rule)
 }
 
 // Loads the board of accepted files, runs the book on it and writes the board that it ends with.
@@ -78,16 +58,13 @@ fn play(book: &[u8], kinds: Kinds, board: &[u8], limit: u16, out: &mut [u8]) -> 
     requires { Ready book.now kinds board.now (length out.old) }
     ensures { Gives (run_outcome (F.run (book_at book.now) limit (board_at board.now (kinds_of kinds)))) out.old (ended_answer result) out.new }
 {
-    let mut kind = [0u8; 384];
-    let mut numbers = [0u16; 1536];
+    let mut rows = Rows::empty();
     let places = rules_of(book, kinds);
-    let count = rows::load(kinds, board, &mut kind, &mut numbers);
-    let ran = run(book, kinds, places, &mut kind, &mut numbers, count, limit);
-    let end = ran.end;
-    let after = ran.count;
-    let length = rows::write(kinds, &kind, &numbers, after, out);
+    let count = rows.load(kinds, board);
+    let ran = run(book, &kinds, &places, &mut rows, count, limit);
+    let length = rows.write(kinds, ran.count, out);
     Ended {
-        end,
+        end: ran.end,
         length,
         firings: ran.firings,
         rule: ran.rule,
@@ -95,20 +72,14 @@ fn play(book: &[u8], kinds: Kinds, board: &[u8], limit: u16, out: &mut [u8]) -> 
 }
 
 // Judges book, board and output, in this order, and then runs the book on the board, up to so many firings.
-pub fn run_book(book: &[u8], board: &[u8], limit: u16, out: &mut [u8]) -> BookRan
-    ensures { Gives (run_book_file book.now board.now limit (length out.old)) out.old (book_answer result) out.new }
+pub fn run_book(book: &[u8], board: &[u8], limit: u16, out: &mut [u8]) -> Result<Ended, Refusal>
+    ensures { Gives (run_book_file book.now board.now limit (length out.old)) out.old (ran_answer result) out.new }
 {
-    let first = check_book(book);
-    if !book::is_accepted(first) {
-        return BookRan::Book(first);
-    }
+    check_book(book)?;
     let kinds = book::kinds(book);
-    let second = check_board(kinds, board);
-    if !board::is_accepted(second) {
-        return BookRan::Board(second);
-    }
+    check_board(kinds, board)?;
     if out.len() < Board::LONGEST {
-        return BookRan::Short;
+        return Err(Refusal::short());
     }
-    BookRan::Ended(play(book, kinds, board, limit, out))
+    Ok(play(book, kinds, board, limit, out))
 }

@@ -16,7 +16,8 @@ pub enum End {
     Stuck,
 }
 
-// A run over the arrays: its end, the rows in use, the firings done and the last fired rule, 255 if none.
+// A run over the arrays: its end, the rows in use, the firings done and the last fired rule, 255 if none. (With an `Option<u8>` none and a rule 255 would
+// give one answer, and an answer is to settle its run.)
 #[derive(Clone, Copy)]
 pub struct Ran {
     pub end: End,

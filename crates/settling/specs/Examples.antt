@@ -1,8 +1,7 @@
 -- Small arrays, worked: a firing that uses the second of three cards and makes one, and one that finds no room.
-use Rattle.std.specs.Prelude.{◌≡◌, refl, true, List, [], ◌∷◌, ℕ}
+use Rattle.std.specs.Prelude.{◌≡◌, refl, Some, None, true, List, [], ◌∷◌, ℕ}
 use Rattle.meaning.specs.Firing.{unused_rows}
 use Rattle.rows.specs.declared.Count.{Count}
-use Rattle.settling.specs.declared.Settled.TheVariants.{Full, Fired}
 use Rattle.rows.specs.Held.{facts_from, rows_from, kinds_with, numbers_with}
 use Rattle.settling.specs.Settles.{settled_as, kinds_after, numbers_after}
 
@@ -27,7 +26,7 @@ abbrev of : ℕ → ℕ → Count
 of cards notices = record { cards = cards; notices = notices }
 
 -- the answer, and the arrays: row 1 is gone, the made card stands behind, row 3 keeps what it had
-answer : settled_as kind numbers (of 3 2) used made_kind made_numbers (of 1 1) ≡ Fired (of 3 3)
+answer : settled_as kind numbers (of 3 2) used made_kind made_numbers (of 1 1) ≡ Some (of 3 3)
 unfolding unused_rows rows_from
 answer = refl
 
@@ -41,7 +40,7 @@ unfolding unused_rows rows_from numbers_with
 numbers_after_lem = refl
 
 -- a 129th notice: FULL, and nothing changes
-full : settled_as kind numbers (of 3 127) used made_kind made_numbers (of 1 2) ≡ Full
+full : settled_as kind numbers (of 3 127) used made_kind made_numbers (of 1 2) ≡ None
 unfolding unused_rows rows_from
 full = refl
 

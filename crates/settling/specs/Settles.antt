@@ -1,12 +1,10 @@
 -- The arrays after a firing (document 01, 'Which firing', from "New cards" on). The firing's used card rows are marked by a byte that is not 0; its
 -- made cards stand in arrays of their own, and its made notices already behind the notices.
-use Rattle.std.specs.Prelude.{ℕ, zero, suc, ◌+◌, ◌≡◌, Bool, not, ◌&&◌, List, ◌++◌, length, get_or, eqb, leb, if◌then◌else◌}
+use Rattle.std.specs.Prelude.{ℕ, zero, suc, ◌+◌, ◌≡◌, Option, Some, None, Bool, not, ◌&&◌, List, ◌++◌, length, get_or, eqb, leb, if◌then◌else◌}
 use Rattle.meaning.specs.Facts.{Fact, most_cards, most_notices}
 use Rattle.meaning.specs.Fit.{Marks}
 use Rattle.meaning.specs.Firing.{unused_rows}
 use Rattle.rows.specs.declared.Count.{Count}
-use Rattle.settling.specs.declared.Settled.{Settled}
-use Rattle.settling.specs.declared.Settled.TheVariants.{Full, Fired}
 use Rattle.rows.specs.Held.{rows_from, kinds_with, numbers_with}
 
 abbrev pub used_in : List ℕ → Marks
@@ -30,8 +28,9 @@ module _ (kind numbers : List ℕ) (count : Count) (used made_kind made_numbers 
   abbrev pub room_for : Bool
   room_for = leb count.cards most_cards && (leb (length new_cards) most_cards && leb (count.notices + made.notices) most_notices)
 
-  abbrev pub settled_as : Settled
-  settled_as = if room_for then Fired (record { cards = length new_cards; notices = count.notices + made.notices }) else Full
+  -- so many rows afterwards, or none: FULL
+  abbrev pub settled_as : Option Count
+  settled_as = if room_for then Some (record { cards = length new_cards; notices = count.notices + made.notices }) else None
 
   -- "the firing hasn't happened": nothing changes; else the new cards stand from row 0 on, and rows past them keep what they had
   abbrev pub kinds_after : List ℕ
@@ -41,7 +40,7 @@ module _ (kind numbers : List ℕ) (count : Count) (used made_kind made_numbers 
   numbers_after = if room_for then numbers_with numbers 0 new_cards else numbers
 
   -- the answer, and every element of the two arrays
-  pub record BoardSettled (kind₁ numbers₁ : List ℕ) (r : Settled) : Type 0 where
+  pub record BoardSettled (kind₁ numbers₁ : List ℕ) (r : Option Count) : Type 0 where
     pub answer : r ≡ settled_as
     pub kinds : kind₁ ≡ kinds_after
     pub places : numbers₁ ≡ numbers_after

@@ -1,13 +1,11 @@
 -- What `settle` leaves is document 01's board after the firing: FULL exactly if that board has no room, else the arrays hold it.
-use Rattle.std.specs.Prelude.{ℕ, zero, suc, ◌+◌, ◌≤◌, ◌<◌, ◌≡◌, refl, Bool, true, false, ◌&&◌, List, [], ◌∷◌, ◌++◌, map, length, leb, if◌then◌else◌}
+use Rattle.std.specs.Prelude.{ℕ, zero, suc, ◌+◌, ◌≤◌, ◌<◌, ◌≡◌, refl, Option, Some, None, Bool, true, false, ◌&&◌, List, [], ◌∷◌, ◌++◌, map, length, leb, if◌then◌else◌}
 use Rattle.std.proofs.Common.{add-zero, arith, sym, ap, ap₂, ◌∙◌, length-append, le-leb, leb-true}
 use Rattle.std.proofs.lemmas.List.{map-append, length-map}
 use Rattle.meaning.specs.Facts.{Kind, Fact, Board, most_cards, most_notices}
 use Rattle.meaning.specs.Fit.{Marks}
 use Rattle.meaning.specs.Firing.{Work, unused_rows, of_class, board_after, has_room, Firing, full, fired, settle}
 use Rattle.rows.specs.declared.Count.{Count}
-use Rattle.settling.specs.declared.Settled.{Settled}
-use Rattle.settling.specs.declared.Settled.TheVariants.{Full, Fired}
 use Rattle.rows.specs.Held.{notices_from, Sized, fact_in, fact_of, row_at, rows_from, facts_from, board_of, kinds_with, numbers_with}
 use Rattle.rows.specs.HeldLaws.{row_of, sized_with, rows-length, rows_written, past-written, facts_of_rows, facts-length}
 use Rattle.settling.specs.Settles.{used_in, kept_cards, new_cards, room_for, BoardSettled}
@@ -65,7 +63,7 @@ module _ (kind numbers : List ℕ) (count : Count) (used made_kind made_numbers 
       (leb-true count.cards most_cards p.0, leb-true (length new) most_cards q.0, leb-true (count.notices + made.notices) most_notices q.1)
 
   -- the arrays keep their sizes, and the count stays within them
-  pub settled_sized : (kind₁ numbers₁ : List ℕ) (r : Settled) → Sized kind numbers → BoardSettled kind numbers count used made_kind made_numbers made kind₁ numbers₁ r
+  pub settled_sized : (kind₁ numbers₁ : List ℕ) (r : Option Count) → Sized kind numbers → BoardSettled kind numbers count used made_kind made_numbers made kind₁ numbers₁ r
       → Sized kind₁ numbers₁
   settled_sized kind₁ numbers₁ r s b = rw (b.kinds, b.places) (by (room_for kind numbers count used made_kind made_numbers made))
     where
@@ -73,12 +71,12 @@ module _ (kind numbers : List ℕ) (count : Count) (used made_kind made_numbers 
       by true = sized_with kind numbers 0 (new_cards kind numbers count used made_kind made_numbers made) s
       by false = s
 
-  pub settled_few : (kind₁ numbers₁ : List ℕ) (count₁ : Count) → BoardSettled kind numbers count used made_kind made_numbers made kind₁ numbers₁ (Fired count₁)
+  pub settled_few : (kind₁ numbers₁ : List ℕ) (count₁ : Count) → BoardSettled kind numbers count used made_kind made_numbers made kind₁ numbers₁ (Some count₁)
       → (count₁.cards ≤ most_cards) × (count₁.notices ≤ most_notices)
   settled_few kind₁ numbers₁ count₁ b = by (room_for kind numbers count used made_kind made_numbers made) refl b.answer
     where
       by : (t : Bool) → room_for kind numbers count used made_kind made_numbers made ≡ t
-          → Fired count₁ ≡ (if t then Fired (record { cards = length (new_cards kind numbers count used made_kind made_numbers made); notices = count.notices + made.notices }) else Full)
+          → Some count₁ ≡ (if t then Some (record { cards = length (new_cards kind numbers count used made_kind made_numbers made); notices = count.notices + made.notices }) else None)
           → (count₁.cards ≤ most_cards) × (count₁.notices ≤ most_notices)
       by true e a =
           let there = room-true e in
@@ -87,13 +85,13 @@ module _ (kind numbers : List ℕ) (count : Count) (used made_kind made_numbers 
       by false e a = let z : ◌≡◌ {A = ℕ} 0 1 = cc in let bad : ⊥ = omega arith in absurd bad
 
   -- FULL leaves the arrays as they were
-  pub settled_full : (kind₁ numbers₁ : List ℕ) → BoardSettled kind numbers count used made_kind made_numbers made kind₁ numbers₁ Full → (kind₁ ≡ kind) × (numbers₁ ≡ numbers)
+  pub settled_full : (kind₁ numbers₁ : List ℕ) → BoardSettled kind numbers count used made_kind made_numbers made kind₁ numbers₁ None → (kind₁ ≡ kind) × (numbers₁ ≡ numbers)
   settled_full kind₁ numbers₁ b = by (room_for kind numbers count used made_kind made_numbers made) b.answer b.kinds b.places
     where
       new : List Fact
       new = new_cards kind numbers count used made_kind made_numbers made
 
-      by : (t : Bool) → Full ≡ (if t then Fired (record { cards = length new; notices = count.notices + made.notices }) else Full)
+      by : (t : Bool) → ◌≡◌ {A = Option Count} None (if t then Some (record { cards = length new; notices = count.notices + made.notices }) else None)
           → kind₁ ≡ (if t then kinds_with kind 0 new else kind) → numbers₁ ≡ (if t then numbers_with numbers 0 new else numbers) → (kind₁ ≡ kind) × (numbers₁ ≡ numbers)
       by true e k n = let z : ◌≡◌ {A = ℕ} 0 1 = cc in let bad : ⊥ = omega arith in absurd bad
       by false e k n = (k, n)
@@ -101,9 +99,9 @@ module _ (kind numbers : List ℕ) (count : Count) (used made_kind made_numbers 
 -- ---- what the arrays say of a firing
 
 -- the answer as a firing of a rule
-abbrev pub firing_of : List Kind → List ℕ → List ℕ → ℕ → Settled → Firing
-firing_of kinds kind numbers rule Full = full
-firing_of kinds kind numbers rule (Fired count) = fired rule (board_of kinds kind numbers count.cards count.notices)
+abbrev pub firing_of : List Kind → List ℕ → List ℕ → ℕ → Option Count → Firing
+firing_of kinds kind numbers rule None = full
+firing_of kinds kind numbers rule (Some count) = fired rule (board_of kinds kind numbers count.cards count.notices)
 
 -- The marks and the made facts are those of a firing's work. Of made facts that there is no room for only the number counts.
 pub record Holds (kinds : List Kind) (kind numbers : List ℕ) (count : Count) (used made_kind made_numbers : List ℕ) (made : Count) (work : Work) : Type 0 where
@@ -180,14 +178,14 @@ module _ (kinds : List Kind) (kind numbers : List ℕ) (count : Count) (used mad
     board-is = λ i. record { cards = cards-held i; notices = notices-held i }
 
   -- both at once: the answer and the arrays are the meaning's `settle`
-  pub settled_firing : (rule : ℕ) (kind₁ numbers₁ : List ℕ) (r : Settled) → Sized kind numbers → count.cards ≤ most_cards
+  pub settled_firing : (rule : ℕ) (kind₁ numbers₁ : List ℕ) (r : Option Count) → Sized kind numbers → count.cards ≤ most_cards
       → BoardSettled kind numbers count used made_kind made_numbers made kind₁ numbers₁ r
       → firing_of kinds kind₁ numbers₁ rule r ≡ settle kinds board rule work
   settled_firing rule kind₁ numbers₁ r s few b =
       rw (b.answer, b.kinds, b.places, ← room-is few) (by (room_for kind numbers count used made_kind made_numbers made) refl)
     where
       by : (t : Bool) → room_for kind numbers count used made_kind made_numbers made ≡ t
-          → firing_of kinds (if t then kinds_with kind 0 new else kind) (if t then numbers_with numbers 0 new else numbers) rule (if t then Fired (record { cards = length new; notices = count.notices + made.notices }) else Full)
+          → firing_of kinds (if t then kinds_with kind 0 new else kind) (if t then numbers_with numbers 0 new else numbers) rule (if t then Some (record { cards = length new; notices = count.notices + made.notices }) else None)
           ≡ (if t then fired rule after else full)
       by true e =
           let there = room-true kind numbers count used made_kind made_numbers made e in

@@ -1,4 +1,3 @@
-pub mod Told
-pub mod ToldLaws
+pub mod Says
 pub mod Leading
 pub mod LeadingLaws

@@ -1,14 +1,19 @@
 // The strip file: words of 8 bytes. Its sizes, the check that a file is a strip, and the kinds that it declares.
 #![tactic(auto)]
 
-ghost use Rattle.std.specs.Prelude.{◌≡◌, ℕ, ◌+◌, ◌*◌, ◌≤◌, ◌<◌, length};
+ghost use Rattle.std.specs.Prelude.{◌≡◌, ℕ, ◌+◌, ◌*◌, ◌≤◌, ◌<◌, length, MatchResult};
 ghost use Rattle.meaning.specs.Facts.{longest_strip};
+ghost use Rattle.files.specs.Numbers as N;
 ghost use Rattle.files.specs.Judge.{told};
-ghost use Rattle.files.specs.Entries.{tells_nothing};
 ghost use Rattle.files.specs.Strip.{fields_at, is_term, word_is_good, may_be_last, earlier_than_next, judge_strip};
-ghost use Rattle.strip.specs.Told.{strip_told, fields_of, earlier_of};
+ghost use Rattle.answers.specs.Refused.{about, told_by};
+ghost use Rattle.answers.specs.declared.Reason.TheVariants as R;
+ghost use Rattle.answers.specs.declared.File.TheVariants as F;
+ghost use Rattle.files.specs.InPlace.{byte_at};
+ghost use Rattle.strip.specs.Says.{Decodes, fields_of, earlier_of};
 ghost use Rattle.strip.specs.Leading.{leading_kinds};
 
+use answers::{File, Reason, Refusal};
 use book::Book;
 use fields::{byte_at, two_at};
 use kinds::Kinds;
@@ -27,17 +32,28 @@ impl Strip {
     pub const REGISTERS: usize = Book::VARIABLES;
 }
 
-// What a file is judged to be: a strip, or refused at a word.
+// What a word does, in the order of the numbers that stand for it.
 #[derive(Clone, Copy)]
-pub enum StripChecked {
-    Accepted,
-    Refused(usize),
+enum Code {
+    Kind,
+    Open,
+    Seek,
+    Bind,
+    Same,
+    Lit,
+    Test,
+    Keep,
+    Put,
+    Arg,
+    Jump,
+    Fire,
+    Quiet,
 }
 
 // A word's fields, in their order.
 #[derive(Clone, Copy)]
 struct Word {
-    code: u8,
+    code: Code,
     a: u8,
     b: u8,
     c: u8,
@@ -52,112 +68,158 @@ struct Earlier {
     others: bool,
 }
 
-// The word at a place.
-fn word_at(strip: &[u8], at: usize) -> Word
-    requires { at + 8 ≤ length strip.now }
-    ensures { fields_of result ≡ fields_at strip.now at }
-{
-    Word {
-        code: byte_at(strip, at),
-        a: byte_at(strip, at + 1),
-        b: byte_at(strip, at + 2),
-        c: byte_at(strip, at + 3),
-        value: two_at(strip, at + 4),
-        target: two_at(strip, at + 6),
-    }
-}
-
 // Is it a tag, and a variable where it says so?
 fn is_term(tag: usize, value: usize) -> bool
     ensures { result ≡ is_term tag value }
 {
-    (tag <= 1) & ((tag == 0) | (value < Strip::REGISTERS))
+    tag <= 1 && (tag == 0 || value < Strip::REGISTERS)
 }
 
-// Is the code known, every field in its range and every unused byte zero? The tests are joined by `&`: none is skipped.
-fn word_is_good(word: Word, size: usize, before: Earlier) -> bool
-    ensures { result ≡ word_is_good size (earlier_of before) (fields_of word) }
-{
-    let code = word.code;
-    let a = word.a as usize;
-    let b = word.b as usize;
-    let c = word.c as usize;
-    let value = word.value as usize;
-    let cursor = a < Strip::CURSORS;
-    let argument = b < Kinds::NUMBERS;
-    let register = c < Strip::REGISTERS;
-    let target = (word.target as usize) < size;
-    let room = before.kinds < Kinds::MOST;
-    let no_a = a == 0;
-    let no_b = b == 0;
-    let no_c = c == 0;
-    let no_value = value == 0;
-    let no_target = word.target == 0;
-    match code {
-        0 => (a <= 1) & (b <= Kinds::NUMBERS) & no_c & no_value & no_target & room & !before.others,
-        1 => cursor & no_b & no_c & no_value & no_target,
-        2 => cursor & (b < before.kinds) & no_c & no_value & target,
-        3 => cursor & argument & register & no_value & no_target,
-        4 => cursor & argument & register & no_value & target,
-        5 => cursor & argument & no_c & target,
-        6 => (a <= 15) & is_term(a / 2 % 2, b + 256 * c) & is_term(a % 2, value) & target,
-        7 => no_a & no_b & no_c & no_value & no_target,
-        8 => (a < before.kinds) & no_b & no_c & no_value & no_target,
-        9 => (a < Kinds::NUMBERS) & is_term(b, value) & no_c & no_target,
-        10 => no_a & no_b & no_c & no_value & target,
-        11 => (a < Book::RULES) & no_b & no_c & no_value & no_target,
-        12 => no_a & no_b & no_c & no_value & no_target,
-        13..=255 => false,
+impl TryFrom<u8> for Code {
+    type Error = Reason;
+
+    ghost try_from_gives = { Decodes };
+
+    fn try_from(number: u8) -> Result<Code, Reason> {
+        match number {
+            0 => Ok(Code::Kind),
+            1 => Ok(Code::Open),
+            2 => Ok(Code::Seek),
+            3 => Ok(Code::Bind),
+            4 => Ok(Code::Same),
+            5 => Ok(Code::Lit),
+            6 => Ok(Code::Test),
+            7 => Ok(Code::Keep),
+            8 => Ok(Code::Put),
+            9 => Ok(Code::Arg),
+            10 => Ok(Code::Jump),
+            11 => Ok(Code::Fire),
+            12 => Ok(Code::Quiet),
+            13..=255 => Err(Reason::Strip),
+        }
     }
 }
 
-// What stands before the word after it.
-fn earlier_than_next(before: Earlier, word: Word) -> Earlier
-    requires { before.kinds < longest_strip }
-    ensures { earlier_of result ≡ earlier_than_next (earlier_of before) (fields_of word) }
-{
-    if word.code == 0 {
-        return Earlier {
-            kinds: before.kinds + 1,
-            others: before.others,
-        };
+impl Word {
+    // The word at a place, if its code is known.
+    fn at(strip: &[u8], at: usize) -> Result<Word, Reason>
+        requires { at + 8 ≤ length strip.now }
+        ensures { MatchResult result (λ word. fields_of word ≡ fields_at strip.now at) (λ _. 12 < byte_at strip.now at) }
+    {
+        Ok(Word {
+            code: Code::try_from(byte_at(strip, at))?,
+            a: byte_at(strip, at + 1),
+            b: byte_at(strip, at + 2),
+            c: byte_at(strip, at + 3),
+            value: two_at(strip, at + 4),
+            target: two_at(strip, at + 6),
+        })
     }
-    Earlier {
-        kinds: before.kinds,
-        others: true,
+
+    // Is every field in its range and every unused byte zero?
+    fn is_good(self, size: usize, before: Earlier) -> bool
+        ensures { result ≡ word_is_good size (earlier_of before) (fields_of self) }
+    {
+        let a = usize::from(self.a);
+        let b = usize::from(self.b);
+        let c = usize::from(self.c);
+        let value = usize::from(self.value);
+        let cursor = a < Strip::CURSORS;
+        let argument = b < Kinds::NUMBERS;
+        let register = c < Strip::REGISTERS;
+        let target = usize::from(self.target) < size;
+        let room = before.kinds < Kinds::MOST;
+        let no_a = a == 0;
+        let no_b = b == 0;
+        let no_c = c == 0;
+        let no_value = value == 0;
+        let no_target = self.target == 0;
+        match self.code {
+            Code::Kind => a <= 1
+                && b <= Kinds::NUMBERS
+                && no_c
+                && no_value
+                && no_target
+                && room
+                && !before.others,
+            Code::Open => cursor && no_b && no_c && no_value && no_target,
+            Code::Seek => cursor && b < before.kinds && no_c && no_value && target,
+            Code::Bind => cursor && argument && register && no_value && no_target,
+            Code::Same => cursor && argument && register && no_value && target,
+            Code::Lit => cursor && argument && no_c && target,
+            Code::Test => a <= 15
+                && is_term(a / 2 % 2, b + 256 * c)
+                && is_term(a % 2, value)
+                && target,
+            Code::Keep => no_a && no_b && no_c && no_value && no_target,
+            Code::Put => a < before.kinds && no_b && no_c && no_value && no_target,
+            Code::Arg => a < Kinds::NUMBERS && is_term(b, value) && no_c && no_target,
+            Code::Jump => no_a && no_b && no_c && no_value && target,
+            Code::Fire => a < Book::RULES && no_b && no_c && no_value && no_target,
+            Code::Quiet => no_a && no_b && no_c && no_value && no_target,
+        }
+    }
+
+    // A last word goes on nowhere: it jumps or ends the attempt. So many words are left, this one among them.
+    fn may_be_last(self, left: usize) -> bool
+        ensures { result ≡ may_be_last left (fields_of self) }
+    {
+        1 < left || matches!(self.code, Code::Jump | Code::Fire | Code::Quiet)
+    }
+}
+
+impl Earlier {
+    // What stands before the word after this one.
+    fn with(self, word: Word) -> Earlier
+        requires { self.kinds < longest_strip }
+        ensures { earlier_of result ≡ earlier_than_next (earlier_of self) (fields_of word) }
+    {
+        match word.code {
+            Code::Kind => Earlier {
+                kinds: self.kinds + 1,
+                others: self.others,
+            },
+            _ => Earlier {
+                kinds: self.kinds,
+                others: true,
+            },
+        }
+    }
+}
+
+// The refusal of a strip at a word.
+fn refusal(word: usize) -> Refusal
+    ensures { result ≡ record { file = F.Strip; reason = R.Strip; place = word } }
+{
+    Refusal {
+        file: File::Strip,
+        reason: Reason::Strip,
+        place: word,
     }
 }
 
 // Judges a file as a strip, word by word.
-pub fn check_strip(strip: &[u8]) -> StripChecked
-    ensures { strip_told result ≡ told (judge_strip strip.now) }
+pub fn check_strip(strip: &[u8]) -> Result<(), Refusal>
+    ensures { told_by result ≡ about N.strip (told (judge_strip strip.now)) }
 {
     let n = strip.len();
-    if n == 0 {
-        return StripChecked::Refused(0);
-    }
-    if Strip::LONGEST < n {
-        return StripChecked::Refused(0);
-    }
-    if n % Strip::WORD != 0 {
-        return StripChecked::Refused(0);
+    if n == 0 || Strip::LONGEST < n || n % Strip::WORD != 0 {
+        return Err(refusal(0));
     }
     let size = n / Strip::WORD;
     let mut before = Earlier {
         kinds: 0,
         others: false,
     };
-    let mut i = 0;
-    while i < size {
-        let word = word_at(strip, Strip::WORD * i);
-        let may_be_last = (1 < size - i) | (10 <= word.code);
-        if !(word_is_good(word, size, before) & may_be_last) {
-            return StripChecked::Refused(i);
+    for i in 0..size {
+        match Word::at(strip, Strip::WORD * i) {
+            Ok(word) if word.is_good(size, before) && word.may_be_last(size - i) => {
+                before = before.with(word);
+            }
+            _ => return Err(refusal(i)),
         }
-        before = earlier_than_next(before, word);
-        i += 1;
     }
-    StripChecked::Accepted
+    Ok(())
 }
 
 // The kinds that the leading KIND words of any bytes declare, as many as there is room for.
@@ -166,24 +228,14 @@ pub fn kinds(strip: &[u8]) -> Kinds
 {
     let size = strip.len() / Strip::WORD;
     let mut found = Kinds::none();
-    let mut i = 0;
-    while i < size {
-        let at = Strip::WORD * i;
-        if byte_at(strip, at) != 0 {
+    for i in 0..size {
+        let Ok(word) = Word::at(strip, Strip::WORD * i) else {
             return found;
+        };
+        match word.code {
+            Code::Kind => found = found.with(word.a, word.b),
+            _ => return found,
         }
-        found = found.with(byte_at(strip, at + 1), byte_at(strip, at + 2));
-        i += 1;
     }
     found
-}
-
-// Does the check accept the strip?
-pub fn is_accepted(checked: StripChecked) -> bool
-    ensures { result ≡ tells_nothing (strip_told checked) }
-{
-    match checked {
-        StripChecked::Accepted => true,
-        StripChecked::Refused(_) => false,
-    }
 }

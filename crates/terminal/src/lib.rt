@@ -1,14 +1,19 @@
 // Files by name, for the programs. Why a file can't be read or written is said on standard error, with its name.
 #![tactic(auto)]
 
-ghost use Rattle.std.specs.Prelude.{◌≤◌, length};
+ghost use Rattle.std.specs.Prelude.{◌≤◌, length, IfOk, IfSome};
 ghost use Rattle.io.specs.Counts.{IsPrefixLen};
 
+use std::fmt::Display;
 use std::fs::{File, OpenOptions};
-use std::io::{Error, ErrorKind, Read, Result, Write};
-use std::{fs, str};
+use std::io::{Error, ErrorKind, Read, Write};
+use std::{fs, io, str};
 
 // ---- what failed
+
+// Something failed, and why has been said on standard error.
+#[derive(Clone, Copy, Debug, PartialEq, Eq)]
+pub struct Told;
 
 // An error's text without its number, which the library puts behind it.
 fn say_error(rt: HostRuntime, error: Error) {
@@ -17,107 +22,85 @@ fn say_error(rt: HostRuntime, error: Error) {
         return;
     };
     let words = text.as_str();
-    match words.split_once(" (os error ") {
-        Some((reason, _)) => {
-            let _ = rt.eprint(reason);
-        }
-        None => {
-            let _ = rt.eprint(words);
-        }
-    }
+    let reason = match words.split_once(" (os error ") {
+        Some((reason, _)) => reason,
+        None => words,
+    };
+    let _ = rt.eprint(reason);
 }
 
-// Writes a line to standard error: what failed, a colon and why.
-fn fail(rt: HostRuntime, what: &[u8], error: Error) {
+// Writes a line to standard error: what failed, a colon and why. A file's name may be no text, so it is written as its bytes.
+fn fail(rt: HostRuntime, what: &[u8], error: Error) -> Told {
     let _ = Print::write_all(&rt.stderr(), what);
     let _ = rt.eprint(": ");
     say_error(rt, error);
     let _ = rt.eprint("\n");
+    Told
 }
 
 // A file's name as the library takes it: as text.
-fn path(name: &[u8]) -> Result<&str> {
-    match str::from_utf8(name) {
-        Ok(text) => Ok(text),
-        Err(_) => Err(Error::new(ErrorKind::InvalidInput, "the name is not UTF-8")),
+fn path(name: &[u8]) -> io::Result<&str> {
+    str::from_utf8(name).map_err(|_| Error::new(ErrorKind::InvalidInput, "the name is not UTF-8"))
+}
+
+// The file that was opened, or none where it is missing.
+fn if_there(opened: io::Result<File>) -> io::Result<Option<File>> {
+    match opened {
+        Ok(file) => Ok(Some(file)),
+        Err(error) if error.kind() == ErrorKind::NotFound => Ok(None),
+        Err(error) => Err(error),
     }
 }
 
-// ---- reading
+// ---- reading: as much of a file as there is room for
 
-// How many bytes of a file were read; or it could not be read.
-#[derive(Clone, Copy)]
-pub struct FileRead {
-    pub bytes: usize,
-    pub is_read: bool,
+// Opens a file to be read.
+fn open_read(rt: HostRuntime, name: &[u8]) -> io::Result<File> {
+    File::open(&rt, path(name)?)
 }
 
-// Reads to the end of the file, or until the bytes are full. A read of nothing is the end.
-fn read_on(rt: HostRuntime, name: &[u8], mut file: File, out: &mut [u8]) -> FileRead
-    ensures { IsPrefixLen result.bytes out.new }
+// Reads to the end of the file, or until the bytes are full. A read of nothing is the end. A read takes what there is, so no `for` can count the reads.
+fn read_on<'a>(
+    rt: HostRuntime,
+    name: &[u8],
+    mut file: File,
+    out: &'a mut [u8],
+) -> Result<&'a [u8], Told>
+    ensures { IfOk result (λ text. IsPrefixLen (length text.now) out.old) }
 {
     let mut done = 0;
     while done < out.len() {
         match file.read(&mut out[done..]) {
             Ok(0) => break,
             Ok(n) => done += n,
-            Err(error) => {
-                fail(rt, name, error);
-                return FileRead {
-                    bytes: done,
-                    is_read: false,
-                };
-            }
+            Err(error) => return Err(fail(rt, name, error)),
         }
     }
-    FileRead {
-        bytes: done,
-        is_read: true,
-    }
+    Ok(&out[..done])
 }
 
-// Opens a file to be read.
-fn open_read(rt: HostRuntime, name: &[u8]) -> Result<File> {
-    File::open(&rt, path(name)?)
-}
-
-// Reads a file from its start, as much of it as there is room for. Where it is missing and may be, it is empty.
-fn read(rt: HostRuntime, name: &[u8], may_miss: bool, out: &mut [u8]) -> FileRead
-    ensures { IsPrefixLen result.bytes out.new }
+// Reads a file, into the bytes that it is given room in.
+pub fn read_file<'a>(rt: HostRuntime, name: &[u8], out: &'a mut [u8]) -> Result<&'a [u8], Told>
+    ensures { IfOk result (λ text. IsPrefixLen (length text.now) out.old) }
 {
-    match open_read(rt, name) {
-        Ok(file) => read_on(rt, name, file, out),
-        Err(error) => {
-            let is_empty = may_miss && error.kind() == ErrorKind::NotFound;
-            if !is_empty {
-                fail(rt, name, error);
-            }
-            FileRead {
-                bytes: 0,
-                is_read: is_empty,
-            }
-        }
-    }
-}
-
-// Reads a file.
-pub fn read_file(rt: HostRuntime, name: &[u8], out: &mut [u8]) -> FileRead
-    ensures { IsPrefixLen result.bytes out.new }
-{
-    read(rt, name, false, out)
+    let file = open_read(rt, name).map_err(|error| fail(rt, name, error))?;
+    read_on(rt, name, file, out)
 }
 
 // Reads a file; a missing one is empty.
-pub fn read_or_empty(rt: HostRuntime, name: &[u8], out: &mut [u8]) -> FileRead
-    ensures { IsPrefixLen result.bytes out.new }
+pub fn read_or_empty<'a>(rt: HostRuntime, name: &[u8], out: &'a mut [u8]) -> Result<&'a [u8], Told>
+    ensures { IfOk result (λ text. IsPrefixLen (length text.now) out.old) }
 {
-    read(rt, name, true, out)
+    match if_there(open_read(rt, name)).map_err(|error| fail(rt, name, error))? {
+        Some(file) => read_on(rt, name, file, out),
+        None => Ok(&out[..0]),
+    }
 }
 
 // ---- writing: a file is written whole or not at all
 
 // Opens a file that is there, to be written.
-fn open_update(rt: HostRuntime, name: &[u8]) -> Result<File> {
+fn open_update(rt: HostRuntime, name: &[u8]) -> io::Result<File> {
     OpenOptions::new()
         .read(true)
         .write(true)
@@ -125,40 +108,32 @@ fn open_update(rt: HostRuntime, name: &[u8]) -> Result<File> {
 }
 
 // May the file be replaced? It may if it is missing, or a plain file, which the system can bring to its disk; so a device never is.
-fn may_replace(rt: HostRuntime, name: &[u8]) -> Result<()> {
-    match open_update(rt, name) {
-        Ok(file) => file.sync_all(),
-        Err(error) => {
-            if error.kind() == ErrorKind::NotFound {
-                Ok(())
-            } else {
-                Err(error)
-            }
-        }
+fn may_replace(rt: HostRuntime, name: &[u8]) -> io::Result<()> {
+    match if_there(open_update(rt, name))? {
+        Some(file) => file.sync_all(),
+        None => Ok(()),
     }
 }
 
-// Puts the name with `.new` behind it at the start of the bytes, and gives its length; 0 where there is no room.
-fn new_name(name: &[u8], out: &mut [u8]) -> usize
-    ensures { IsPrefixLen result out.new }
+// What stands behind the name of a file that is being written.
+const NEW: &[u8; 4] = b".new";
+
+// The name with `.new` behind it, at the start of the bytes; none where there is no room.
+fn new_name<'a>(name: &[u8], out: &'a mut [u8]) -> Option<&'a [u8]>
+    ensures { IfSome result (λ text. IsPrefixLen (length text.now) out.old) }
 {
-    if out.len() < 4 {
-        return 0;
-    }
-    if out.len() - 4 < name.len() {
-        return 0;
-    }
     let n = name.len();
+    let end = n + NEW.len();
+    if out.len() < end {
+        return None;
+    }
     out[..n].copy_from_slice(name);
-    out[n] = b'.';
-    out[n + 1] = b'n';
-    out[n + 2] = b'e';
-    out[n + 3] = b'w';
-    n + 4
+    out[n..end].copy_from_slice(NEW);
+    Some(&out[..end])
 }
 
 // Makes a file. A name that is taken is left as it is.
-fn create(rt: HostRuntime, name: &[u8]) -> Result<File> {
+fn create(rt: HostRuntime, name: &[u8]) -> io::Result<File> {
     OpenOptions::new()
         .write(true)
         .create_new(true)
@@ -166,7 +141,7 @@ fn create(rt: HostRuntime, name: &[u8]) -> Result<File> {
 }
 
 // Writes to the file and brings it to the disk.
-fn put(mut file: File, content: &[u8]) -> Result<()> {
+fn put(mut file: File, content: &[u8]) -> io::Result<()> {
     file.write_all(content)?;
     file.sync_all()
 }
@@ -179,24 +154,17 @@ fn remove(rt: HostRuntime, name: &[u8]) {
 }
 
 // Makes a file and writes it to the disk. A name that is taken is left as it is.
-fn write_new(rt: HostRuntime, name: &[u8], content: &[u8]) -> bool {
-    let file = match create(rt, name) {
-        Ok(file) => file,
-        Err(error) => {
-            fail(rt, name, error);
-            return false;
-        }
-    };
-    if let Err(error) = put(file, content) {
-        fail(rt, name, error);
+fn write_new(rt: HostRuntime, name: &[u8], content: &[u8]) -> Result<(), Told> {
+    let file = create(rt, name).map_err(|error| fail(rt, name, error))?;
+    put(file, content).map_err(|error| {
+        let told = fail(rt, name, error);
         remove(rt, name);
-        return false;
-    }
-    true
+        told
+    })
 }
 
 // Gives a file another name, in the place of the file that has it.
-fn rename(rt: HostRuntime, from: &[u8], to: &[u8]) -> Result<()> {
+fn rename(rt: HostRuntime, from: &[u8], to: &[u8]) -> io::Result<()> {
     fs::rename(&rt, path(from)?, path(to)?)
 }
 
@@ -204,29 +172,31 @@ fn rename(rt: HostRuntime, from: &[u8], to: &[u8]) -> Result<()> {
 const LONGEST_NAME: usize = 4096;
 
 // Writes a file: under a new name first, which then takes the file's place. A pulled stick leaves the old file or the new one, and no torn one.
-pub fn write_file(rt: HostRuntime, name: &[u8], content: &[u8]) -> bool {
-    if let Err(error) = may_replace(rt, name) {
-        fail(rt, name, error);
-        return false;
-    }
-    let mut space = [0; LONGEST_NAME + 4];
-    let n = new_name(name, &mut space);
-    if !write_new(rt, &space[..n], content) {
-        return false;
-    }
-    if let Err(error) = rename(rt, &space[..n], name) {
-        fail(rt, name, error);
-        remove(rt, &space[..n]);
-        return false;
-    }
-    true
+pub fn write_file(rt: HostRuntime, name: &[u8], content: &[u8]) -> Result<(), Told> {
+    may_replace(rt, name).map_err(|error| fail(rt, name, error))?;
+    let mut space = [0; LONGEST_NAME + NEW.len()];
+    // No file has the empty name: the system refuses it for a name that is too long.
+    let new = new_name(name, &mut space).unwrap_or(b"");
+    write_new(rt, new, content)?;
+    rename(rt, new, name).map_err(|error| {
+        let told = fail(rt, name, error);
+        remove(rt, new);
+        told
+    })
 }
 
 // ---- standard output
 
-// Writes a text to standard output.
-pub fn say(rt: HostRuntime, text: &[u8]) {
-    if let Err(error) = Print::write_all(&rt.stdout(), text) {
+// Writes a text, or what has one, to standard output.
+pub fn say(rt: HostRuntime, text: impl Display + Drop) {
+    if let Err(error) = rt.print(text) {
+        fail(rt, b"standard output", error);
+    }
+}
+
+// Writes bytes to standard output.
+pub fn say_bytes(rt: HostRuntime, bytes: &[u8]) {
+    if let Err(error) = Print::write_all(&rt.stdout(), bytes) {
         fail(rt, b"standard output", error);
     }
 }

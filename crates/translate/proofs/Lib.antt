@@ -1,6 +1,5 @@
 pub mod Stores
 pub mod Bound
-pub mod Leaves
 pub mod ArgumentLaws
 pub mod ArgumentsLeft
 pub mod AtomLaws

@@ -1,6 +1,6 @@
 -- The entry's contract settles its answer and every byte of the output: any two results that meet it are equal.
-use Rattle.std.specs.Prelude.{◌≡◌, refl, ℕ, suc, ◌+◌, ◌<◌, Bool, true, false, List, [], ◌∷◌, ◌++◌, map, length, eqb, ltb, if◌then◌else◌}
-use Rattle.std.proofs.Common.{sym, ap, ◌∙◌, subst, arith, length-append}
+use Rattle.std.specs.Prelude.{◌≡◌, refl, ℕ, suc, ◌+◌, ◌<◌, Bool, true, false, List, [], ◌∷◌, ◌++◌, map, length, ltb, Result, if◌then◌else◌}
+use Rattle.std.proofs.Common.{sym, ◌∙◌, arith, length-append}
 use Rattle.meaning.specs.Facts.{Kind, longest_strip}
 use Rattle.meaning.specs.Rules.{Rule, Book}
 use Rattle.meaning.specs.Words.{Word}
@@ -12,39 +12,15 @@ use Rattle.files.specs.Encode.{encode_strip}
 use Rattle.files.specs.Entries.{Outcome, nothing_written, bytes_after, if_accepted, if_room, translate_file}
 use Rattle.encoding.specs.Telling.{refusal_counts}
 use Rattle.encoding.specs.Strips.{strip_length}
-use Rattle.book.specs.declared.BookChecked.TheVariants as B
-use Rattle.book.specs.ToldLaws.{refused_for}
-use Rattle.translate.specs.declared.Translated.{Translated}
-use Rattle.translate.specs.declared.Translated.TheVariants as T
+use Rattle.answers.specs.RefusedLaws.{answered_settles}
+use Rattle.answers.specs.declared.Refusal.{Refusal}
 use Rattle.translate.specs.Answers.{translated_answer}
 
--- ---- the result that gives an answer, by the answer's numbers
-
-abbrev result_for : Answer → Translated
-result_for a =
-    if eqb a.number 0 then T.Done a.length
-    else if eqb a.file 4 then T.Short
-    else T.Refused (refused_for a.number a.place)
+-- ---- the entry's answer tells
 
 -- a refusal has a number, and a strip a length
-abbrev Tells : Answer → Type 0
+abbrev pub Tells : Answer → Type 0
 Tells a = 0 < a.number + a.length
-
-back : (r : Translated) → Tells (translated_answer r) → result_for (translated_answer r) ≡ r
-back (T.Refused B.Accepted) h = let bad : ⊥ = omega arith in absurd bad
-back (T.Refused (B.Cut place)) h = refl
-back (T.Refused (B.Mark place)) h = refl
-back (T.Refused (B.Place place)) h = refl
-back (T.Refused (B.Nocard place)) h = refl
-back (T.Refused (B.Bare place)) h = refl
-back (T.Refused (B.Many place)) h = refl
-back (T.Refused (B.Field place)) h = refl
-back (T.Refused (B.Loose place)) h = refl
-back (T.Refused (B.Trail place)) h = refl
-back T.Short h = refl
-back (T.Done length) h = refl
-
--- ---- the entry's answer tells
 
 -- the last word is always there
 some_words : (kinds : List Kind) (number p : ℕ) (rules : List Rule) → 0 < length (rules_words kinds number p rules)
@@ -54,13 +30,13 @@ some_words kinds number p (rule ∷ rules) =
     let more : List Word = rules_words kinds (suc number) (p + rule_length rule) rules in
     omega (arith, length-append (rule_words kinds number p rule) more, some_words kinds (suc number) (p + rule_length rule) rules)
 
-strip_tells : (b : Book) → 0 < length (encode_strip (translate b))
+pub strip_tells : (b : Book) → 0 < length (encode_strip (translate b))
 unfolding translate
 strip_tells b =
     let code : List Word = rules_words b.kinds 0 (length b.kinds) b.rules in
     omega (arith, strip_length (map kind_word b.kinds ++ code), length-append (map kind_word b.kinds) code, some_words b.kinds 0 (length b.kinds) b.rules)
 
-answer_tells : (file : List ℕ) (room : ℕ) → Tells (translate_file file room).answer
+pub answer_tells : (file : List ℕ) (room : ℕ) → Tells (translate_file file room).answer
 unfolding translate_file
 answer_tells file room = by (judge_book file)
   where
@@ -78,12 +54,10 @@ answer_tells file room = by (judge_book file)
 
 -- ---- two results of one call are equal, and so is what they leave in the output
 
-pub translate_settles : (file out₀ : List ℕ) (r s : Translated) (out₁ out₂ : List ℕ)
+pub translate_settles : (file out₀ : List ℕ) (r s : Result ℕ Refusal) (out₁ out₂ : List ℕ)
     → (translated_answer r ≡ (translate_file file (length out₀)).answer) × (out₁ ≡ bytes_after (translate_file file (length out₀)) out₀)
     → (translated_answer s ≡ (translate_file file (length out₀)).answer) × (out₂ ≡ bytes_after (translate_file file (length out₀)) out₀) → (r ≡ s) × (out₁ ≡ out₂)
-translate_settles file out₀ r s out₁ out₂ one other =
-    let tells : (r : Translated) → translated_answer r ≡ (translate_file file (length out₀)).answer → Tells (translated_answer r) =
-    λ r e. subst Tells (sym e) (answer_tells file (length out₀)) in (
-      sym (back r (tells r one.0)) ∙ ap result_for (one.0 ∙ sym other.0) ∙ back s (tells s other.0),
-      one.1 ∙ sym other.1,
-    )
+translate_settles file out₀ r s out₁ out₂ one other = (
+  answered_settles acceptance (λ answer. answer.length) (λ length. refl) (λ length. refl) r s (one.0 ∙ sym other.0),
+  one.1 ∙ sym other.1,
+)

@@ -1,115 +1,267 @@
 // A strip's words, by name, in the order of document 01's table: the name, the fields, and after `else` the word that it may go to.
-use terminal::say;
+ghost use Rattle.std.specs.Prelude.{◌≡◌, nat_eq};
+ghost use Rattle.files.specs.InPlace.{comparison_of, term_of};
+ghost use Rattle.wording.specs.Said.{SaysWord, card_said, comparison_said, term_said};
 
-// A word of a strip, by its fields.
-#[derive(Clone, Copy)]
-pub struct Word {
-    pub code: u8,
-    pub a: u8,
-    pub b: u8,
-    pub c: u8,
-    pub value: u16,
-    pub target: u16,
+use std::fmt;
+use std::fmt::{Display, Formatter, Write};
+
+// What a kind is of.
+#[derive(Clone, Copy, Debug, PartialEq, Eq)]
+pub enum Class {
+    Card,
+    Notice,
 }
 
-// A text, and a number behind it.
-fn part(rt: HostRuntime, text: &[u8], n: u64) {
-    say(rt, text);
-    let _ = rt.print(n);
+// What a test compares, or an argument is set to.
+#[derive(Clone, Copy, Debug, PartialEq, Eq)]
+pub enum Operand {
+    Value(u16),
+    Register(u16),
 }
 
-// The word that the strip goes to where a row or a test fails.
-fn otherwise(rt: HostRuntime, target: u16) {
-    part(rt, b" else ", target as u64);
+// How a test compares.
+#[derive(Clone, Copy, Debug, PartialEq, Eq)]
+pub enum Comparison {
+    Equal,
+    Unequal,
+    Less,
+    LessOrEqual,
 }
 
-// A cursor's argument.
-fn argument(rt: HostRuntime, name: &[u8], w: Word) {
-    part(rt, name, w.a as u64);
-    part(rt, b" argument ", w.b as u64);
+// The argument of a cursor's row.
+#[derive(Clone, Copy, Debug, PartialEq, Eq)]
+pub struct Argument {
+    pub cursor: u8,
+    pub position: u8,
 }
 
-// A value or a register, by its tag.
-fn operand(rt: HostRuntime, tag: u8, n: u16) {
-    if tag == 0 {
-        part(rt, b" value ", n as u64);
-    } else {
-        part(rt, b" register ", n as u64);
+// A word of a strip, by its fields. `otherwise` is the word that the strip goes to where a row or a test fails.
+#[derive(Clone, Copy, Debug, PartialEq, Eq)]
+pub enum Word {
+    Kind {
+        class: Class,
+        arity: u8,
+    },
+    Open {
+        cursor: u8,
+    },
+    Seek {
+        cursor: u8,
+        kind: u8,
+        otherwise: u16,
+    },
+    Bind {
+        argument: Argument,
+        register: u8,
+    },
+    Same {
+        argument: Argument,
+        register: u8,
+        otherwise: u16,
+    },
+    Lit {
+        argument: Argument,
+        value: u16,
+        otherwise: u16,
+    },
+    Test {
+        left: Operand,
+        comparison: Comparison,
+        right: Operand,
+        otherwise: u16,
+    },
+    Keep,
+    Put {
+        kind: u8,
+    },
+    Arg {
+        position: u8,
+        value: Operand,
+    },
+    Jump {
+        target: u16,
+    },
+    Fire {
+        rule: u8,
+    },
+    Quiet,
+}
+
+// By its number: whatever is no card is a notice.
+impl From<u8> for Class {
+    ghost from_gives = { λ number class. card_said class ≡ nat_eq number 0 };
+
+    fn from(number: u8) -> Class {
+        if number == 0 {
+            Class::Card
+        } else {
+            Class::Notice
+        }
     }
 }
 
-// A test's name.
-fn comparison(rt: HostRuntime, number: u8) {
-    match number {
-        0 => say(rt, b" equal"),
-        1 => say(rt, b" unequal"),
-        2 => say(rt, b" less"),
-        _ => say(rt, b" less-or-equal"),
-    }
-}
-
-// A test, by its code: 4 × test + 2 × left tag + right tag. The left operand is in two bytes.
-fn test(rt: HostRuntime, w: Word) {
-    let code = w.a;
-    let left = w.b as u16 + 256 * (w.c as u16);
-    say(rt, b"TEST");
-    operand(rt, code / 2 % 2, left);
-    comparison(rt, code / 4);
-    operand(rt, code % 2, w.value);
-    otherwise(rt, w.target);
-}
-
-// A kind's class and arity.
-fn kind(rt: HostRuntime, w: Word) {
-    if w.a == 0 {
-        part(rt, b"KIND card ", w.b as u64);
-    } else {
-        part(rt, b"KIND notice ", w.b as u64);
-    }
-}
-
-// A row's argument, as it is bound or compared.
-fn row_word(rt: HostRuntime, w: Word) {
-    let code = w.code;
-    match code {
-        3 => {
-            argument(rt, b"BIND ", w);
-            part(rt, b" register ", w.c as u64);
-        }
-        4 => {
-            argument(rt, b"SAME ", w);
-            part(rt, b" register ", w.c as u64);
-            otherwise(rt, w.target);
-        }
-        _ => {
-            argument(rt, b"LIT ", w);
-            part(rt, b" value ", w.value as u64);
-            otherwise(rt, w.target);
+impl Operand {
+    // By its tag: whatever is no value is a register.
+    fn tagged(tag: u8, n: u16) -> Operand
+        ensures { term_said result ≡ term_of tag n }
+    {
+        if tag == 0 {
+            Operand::Value(n)
+        } else {
+            Operand::Register(n)
         }
     }
 }
 
-// A word's name and fields.
-pub fn say_word(rt: HostRuntime, w: Word) {
-    let code = w.code;
-    match code {
-        0 => kind(rt, w),
-        1 => part(rt, b"OPEN ", w.a as u64),
-        2 => {
-            part(rt, b"SEEK ", w.a as u64);
-            part(rt, b" kind ", w.b as u64);
-            otherwise(rt, w.target);
+// By its number: whatever is none of the first three is the last.
+impl From<u8> for Comparison {
+    ghost from_gives = { λ number comparison. comparison_said comparison ≡ comparison_of number };
+
+    fn from(number: u8) -> Comparison {
+        match number {
+            0 => Comparison::Equal,
+            1 => Comparison::Unequal,
+            2 => Comparison::Less,
+            _ => Comparison::LessOrEqual,
         }
-        3..=5 => row_word(rt, w),
-        6 => test(rt, w),
-        7 => say(rt, b"KEEP"),
-        8 => part(rt, b"PUT ", w.a as u64),
-        9 => {
-            part(rt, b"ARG ", w.a as u64);
-            operand(rt, w.b, w.value);
+    }
+}
+
+// A word's bytes: its code, three fields, and a value and a target of two bytes each. A code that no strip has is shown as QUIET.
+impl From<[u8; 8]> for Word {
+    ghost from_gives = { SaysWord };
+
+    fn from(bytes: [u8; 8]) -> Word {
+        let [
+            code,
+            a,
+            b,
+            c,
+            value_low,
+            value_high,
+            target_low,
+            target_high,
+        ] = bytes;
+        let value = u16::from_le_bytes([value_low, value_high]);
+        let target = u16::from_le_bytes([target_low, target_high]);
+        let argument = Argument {
+            cursor: a,
+            position: b,
+        };
+        match code {
+            0 => Word::Kind {
+                class: Class::from(a),
+                arity: b,
+            },
+            1 => Word::Open { cursor: a },
+            2 => Word::Seek {
+                cursor: a,
+                kind: b,
+                otherwise: target,
+            },
+            3 => Word::Bind {
+                argument,
+                register: c,
+            },
+            4 => Word::Same {
+                argument,
+                register: c,
+                otherwise: target,
+            },
+            5 => Word::Lit {
+                argument,
+                value,
+                otherwise: target,
+            },
+            // a is 4 × test + 2 × left tag + right tag, and the left operand is in b and c
+            6 => Word::Test {
+                left: Operand::tagged(a / 2 % 2, u16::from_le_bytes([b, c])),
+                comparison: Comparison::from(a / 4),
+                right: Operand::tagged(a % 2, value),
+                otherwise: target,
+            },
+            7 => Word::Keep,
+            8 => Word::Put { kind: a },
+            9 => Word::Arg {
+                position: a,
+                value: Operand::tagged(b, value),
+            },
+            10 => Word::Jump { target },
+            11 => Word::Fire { rule: a },
+            _ => Word::Quiet,
         }
-        10 => part(rt, b"JUMP ", w.target as u64),
-        11 => part(rt, b"FIRE ", w.a as u64),
-        _ => say(rt, b"QUIET"),
+    }
+}
+
+impl Display for Class {
+    fn fmt<W: Write>(&self, f: &mut Formatter<W>) -> fmt::Result {
+        f.write_str(match self {
+            Class::Card => "card",
+            Class::Notice => "notice",
+        })
+    }
+}
+
+impl Display for Operand {
+    fn fmt<W: Write>(&self, f: &mut Formatter<W>) -> fmt::Result {
+        match self {
+            Operand::Value(n) => write!(f, "value {n}"),
+            Operand::Register(n) => write!(f, "register {n}"),
+        }
+    }
+}
+
+impl Display for Comparison {
+    fn fmt<W: Write>(&self, f: &mut Formatter<W>) -> fmt::Result {
+        f.write_str(match self {
+            Comparison::Equal => "equal",
+            Comparison::Unequal => "unequal",
+            Comparison::Less => "less",
+            Comparison::LessOrEqual => "less-or-equal",
+        })
+    }
+}
+
+impl Display for Argument {
+    fn fmt<W: Write>(&self, f: &mut Formatter<W>) -> fmt::Result {
+        write!(f, "{} argument {}", self.cursor, self.position)
+    }
+}
+
+impl Display for Word {
+    fn fmt<W: Write>(&self, f: &mut Formatter<W>) -> fmt::Result {
+        match self {
+            Word::Kind { class, arity } => write!(f, "KIND {class} {arity}"),
+            Word::Open { cursor } => write!(f, "OPEN {cursor}"),
+            Word::Seek {
+                cursor,
+                kind,
+                otherwise,
+            } => write!(f, "SEEK {cursor} kind {kind} else {otherwise}"),
+            Word::Bind { argument, register } => write!(f, "BIND {argument} register {register}"),
+            Word::Same {
+                argument,
+                register,
+                otherwise,
+            } => write!(f, "SAME {argument} register {register} else {otherwise}"),
+            Word::Lit {
+                argument,
+                value,
+                otherwise,
+            } => write!(f, "LIT {argument} value {value} else {otherwise}"),
+            Word::Test {
+                left,
+                comparison,
+                right,
+                otherwise,
+            } => write!(f, "TEST {left} {comparison} {right} else {otherwise}"),
+            Word::Keep => f.write_str("KEEP"),
+            Word::Put { kind } => write!(f, "PUT {kind}"),
+            Word::Arg { position, value } => write!(f, "ARG {position} {value}"),
+            Word::Jump { target } => write!(f, "JUMP {target}"),
+            Word::Fire { rule } => write!(f, "FIRE {rule}"),
+            Word::Quiet => f.write_str("QUIET"),
+        }
     }
 }

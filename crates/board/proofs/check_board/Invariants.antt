@@ -6,8 +6,8 @@ use Rattle.kinds.specs.Listed.{kinds_of}
 use Rattle.board.proofs.TurnLaws.{Turn}
 use Rattle.board.proofs.check_board.Given as goal
 
-abbrev pub invariant-loop-m : goal.invariant-loop-m
-invariant-loop-m l = Turn (kinds_of l.kinds) l.board l.rest l.cards l.notices × (l.n ≡ length l.board)
+abbrev pub invariant-records : goal.invariant-records
+invariant-records l = Turn (kinds_of l.kinds) l.board l.rest l.cards l.notices × (l.n ≡ length l.board)
 
-abbrev pub decreases-loop-m : goal.decreases-loop-m
-decreases-loop-m l = length l.rest
+abbrev pub decreases-records : goal.decreases-records
+decreases-records l = length l.rest

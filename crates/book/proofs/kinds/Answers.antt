@@ -1,21 +1,26 @@
--- `kinds` reads kind after kind. The invariant: the kinds that are read and those that are left are all kinds. The measure: how many may come.
-use Rattle.book.proofs.KindsLaws.{count-start, count-end, count_last, count_next, count_less, count-whole}
+-- `kinds` reads kind after kind. The invariant: the kinds that are read and those that are left are all kinds.
+use native.Mathlib.Omega.{arith}
+use mathlib.Core.Path.{◌∙◌, ap}
+use Rattle.book.proofs.KindsLaws.{count_start, count_past, count_stops, count_goes}
 use Rattle.book.proofs.kinds.Goals as goal
 
-pub loop-kinds-init : goal.loop-kinds-init
-loop-kinds-init c = search count-start
+pub loop-kd-init : goal.loop-kd-init
+loop-kd-init c = rw (c.into_iter-kd-iterator.ensures.into_iter_gives, c.take-kd-items.ensures.source, c.take-kd-items.ensures.count)
+    (count_start _ _ c.chunks.ensures.rest _ c.none-kinds.ensures, c.chunks.ensures.size, omega (arith, ap (λ k. k.count) c.none-kinds.ensures))
+
+pub loop-kd-preserved : goal.loop-kd-preserved
+loop-kd-preserved c =
+    let h = c.loop-kd.invariant in
+    let e = c.in-Some.ensures.steps in
+    let s = count_goes _ _ _ h.0 _ h.1 _ _ e.0.1.0 e.0.1.1 _ c.starts_with.ensures c.if-not-starts_with.false (omega (arith, h.2, e.1)) _ _
+    c.byte_at.ensures c.byte_at-in-loop-kd.ensures _ c.with-kinds.ensures in
+    (s.0, e.0.0 ∙ h.1, omega (arith, s.1, h.2, e.1))
+
+pub returns-in-None : goal.returns-in-None
+returns-in-None c = count_past _ _ _ c.loop-kd.invariant.0 _ c.loop-kd.invariant.2 (λ p. (c.in-None.ensures.steps p).1.0)
 
 pub returns-then-not-starts_with : goal.returns-then-not-starts_with
-returns-then-not-starts_with c = search count-end
-
-pub returns-then-rest-lt4 : goal.returns-then-rest-lt4
-returns-then-rest-lt4 c = search count_last
-
-pub loop-kinds-smaller : goal.loop-kinds-smaller
-loop-kinds-smaller c = search count_less
-
-pub loop-kinds-preserved : goal.loop-kinds-preserved
-loop-kinds-preserved c = search (count_next, c.loop-kinds.invariant, c.with-kinds.ensures)
-
-pub returns : goal.returns
-returns c = search count-whole
+returns-then-not-starts_with c =
+    let h = c.loop-kd.invariant in
+    let e = c.in-Some.ensures.steps in
+    count_stops _ _ _ h.0 _ h.1 _ _ e.0.1.0 e.0.1.1 _ c.starts_with.ensures c.if-not-starts_with.true

@@ -5,6 +5,6 @@ use Rattle.engine.proofs.llwybrenu_run_book.Goals as goal
 
 pub returns : goal.returns
 returns c = (
-  c.of_book_ran.ensures ∙ ap shown c.run_book.ensures.answer,
+  c.of_run.ensures ∙ ap shown c.run_book.ensures.answer,
   c.run_book.ensures.bytes,
 )

@@ -5,6 +5,6 @@ use Rattle.engine.proofs.llwybrenu_run_strip.Goals as goal
 
 pub returns : goal.returns
 returns c = (
-  c.of_strip_ran.ensures ∙ ap shown c.run_strip.ensures.answer,
+  c.of_run.ensures ∙ ap shown c.run_strip.ensures.answer,
   c.run_strip.ensures.bytes,
 )

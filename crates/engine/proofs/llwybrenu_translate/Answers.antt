@@ -5,6 +5,6 @@ use Rattle.engine.proofs.llwybrenu_translate.Goals as goal
 
 pub returns : goal.returns
 returns c = (
-  c.of_translated.ensures ∙ ap shown c.translate.ensures.0,
+  c.of_translation.ensures ∙ ap shown c.translate.ensures.0,
   c.translate.ensures.1,
 )

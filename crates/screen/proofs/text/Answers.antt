@@ -1,12 +1,7 @@
--- `text` puts the text of its case.
-use Rattle.screen.proofs.Laws.{text_accepted, text_refused, text_ended}
+-- The lent bytes are those that the writer has put text into.
+use mathlib.Core.Path.{refl, sym}
+use Rattle.screen.proofs.Laws.{text_put}
 use Rattle.screen.proofs.text.Goals as goal
 
-pub returns-then-number-eq0 : goal.returns-then-number-eq0
-returns-then-number-eq0 c = search text_accepted
-
-pub returns-then-number-lt20 : goal.returns-then-number-lt20
-returns-then-number-lt20 c = search text_refused
-
 pub returns : goal.returns
-returns c = search text_ended
+returns c = text_put _ _ _ _ _ c.put_answer.ensures refl (c.out-1.given.1.1 (sym c.put_answer.ensures.lent))

@@ -1,10 +1,7 @@
 -- `append` writes the made cards. The invariant: what is left to write, into the arrays as they are, gives the whole.
 use mathlib.Core.Path.{refl}
-use Rattle.settling.proofs.Settling.{append_start, append_next, append_end}
+use Rattle.settling.proofs.Settling.{append_next, append_end}
 use Rattle.settling.proofs.append.Goals as goal
-
-pub loop-row-init : goal.loop-row-init
-loop-row-init c = search append_start
 
 pub loop-row-preserved : goal.loop-row-preserved
 loop-row-preserved c = search append_next

@@ -1,18 +1,17 @@
 -- `close_rows` moves the cards that stay down, in their order. The invariant: what is left to move, read from the arrays as they are and written where
--- the next row goes, gives the whole. The measure: how many rows are left.
-use Rattle.settling.proofs.Settling.{rows_start, close_stay, close_go, close_end}
+-- the next row goes, gives the whole.
+use Rattle.settling.proofs.Settling.{close_stay, close_go, close_end}
 use Rattle.settling.proofs.close_rows.Goals as goal
+use Rattle.settling.proofs.close_rows.Goals.{then-used-from-eq0, else-used-from-eq0}
 
-pub loop-next-init : goal.loop-next-init
-loop-next-init c = search rows_start
-
-pub loop-next-preserved-then-used-from-eq0 : goal.loop-next-preserved-then-used-from-eq0
-loop-next-preserved-then-used-from-eq0 c = search close_stay
-
-pub loop-next-preserved : goal.loop-next-preserved
-loop-next-preserved c = search close_go
+pub loop-from-preserved : goal.loop-from-preserved
+loop-from-preserved c =
+    elim c.if-used-from-eq0.branch [
+      | then-used-from-eq0 w ↦ rw (w.rows-is, w.to-is) (search close_stay)
+      | else-used-from-eq0 w ↦ rw (w.rows-is, w.to-is) (search close_go)
+    ]
 
 pub returns : goal.returns
 returns c =
-    let end = close_end _ _ _ _ _ _ _ _ _ c.loop-next.invariant c.loop-next-test.false in
+    let end = close_end _ _ _ _ _ _ _ _ _ c.loop-from.invariant c.loop-from-test.false in
     record { answer = end.0; kinds = end.1; places = end.2 }

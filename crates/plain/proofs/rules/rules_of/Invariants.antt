@@ -1,12 +1,7 @@
--- `rules_of`: the places found so far, and those from here on, are all the rules' places. The measure: how many may come.
-use Prim.Native.Nat.{◌-◌}
-use Rattle.meaning.specs.Facts.{most_rules}
+-- `rules_of`: the places found so far, and those from here on, are all the rules' places.
 use Rattle.kinds.specs.Listed.{kinds_of}
 use Rattle.plain.proofs.RulesLaws.{Placing}
 use Rattle.plain.proofs.rules.rules_of.Given as goal
 
 abbrev pub invariant-loop-count : goal.invariant-loop-count
 invariant-loop-count l = Placing l.book (kinds_of l.kinds) l.at l.count l.next
-
-abbrev pub decreases-loop-count : goal.decreases-loop-count
-decreases-loop-count l = most_rules - l.count

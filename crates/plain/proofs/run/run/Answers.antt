@@ -1,11 +1,7 @@
--- `run`: to go on from here is the whole run. The measure: how many firings are left.
+-- `run`: to go on from here is the whole run.
 use borrow.Author.Rules.{rules}
-use mathlib.Core.Path.{refl}
-use Rattle.plain.proofs.RunLaws.{run-start, run_quiet, run_full, run-fired, run_limit}
+use Rattle.plain.proofs.RunLaws.{run_quiet, run_full, run-fired, run_limit}
 use Rattle.plain.proofs.run.run.Goals as goal
-
-pub loop-firings-init : goal.loop-firings-init
-loop-firings-init c = (search run-start, record { listed = refl; rows = refl; places = refl })
 
 pub returns-in-Quiet : goal.returns-in-Quiet
 returns-in-Quiet c = search run_quiet
@@ -17,4 +13,4 @@ pub loop-firings-preserved : goal.loop-firings-preserved
 loop-firings-preserved c = (search run-fired, search rules)
 
 pub returns : goal.returns
-returns c = search run_limit
+returns c = search (run_limit, c.loop-firings.auto.firings-end, c.loop-firings-test.false)

@@ -1,6 +1,0 @@
--- `put_end` puts the pieces of the line one behind another.
-use Rattle.screen.specs.Put.{put_append}
-use Rattle.screen.proofs.put_end.Goals as goal
-
-pub returns : goal.returns
-returns c = simp put_append (cc)
