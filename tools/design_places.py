@@ -98,7 +98,7 @@ show(
 )
 show("2 groups of functions of one shape", twins())
 show("2 widening and narrowing functions", [f"{p}: {n}" for p, n, q, b in functions() if len(q) == 1 and re.fullmatch(r"\{\s*[\w.]+ as \w+\s*\}", b)])
-show("3 loops by while or loop", lines(r"^ *(while|loop)\b"))
+show("3 loops by while or loop", lines(r"^ *('\w+: )?(while|loop)\b"))
 show("3 loops by for", lines(r"^ *for "))
 show("4 bytes of numbers by hand", lines(r"% 256|/ 256|256 \*"))
 show("4 lesser and greater by hand", [f"{p}: {n}" for p, n, q, b in functions() if re.fullmatch(r"\{\s*if (\S+) <=? (\S+) \{\s*(return )?\S+;?\s*\}(\s*else \{)?\s*\S+( - \S+)?\s*(\})?\s*\}", b)])

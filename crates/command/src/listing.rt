@@ -1,7 +1,7 @@
 // A strip's words, one a line, each after its number.
 use strip::Strip;
 use terminal::say;
-use wording::strip_words::Word;
+use words::Word;
 
 // Every word of an accepted strip.
 pub fn say_strip(rt: HostRuntime, strip: &[u8]) {

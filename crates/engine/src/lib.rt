@@ -60,30 +60,21 @@ fn of_ended(ended: Ended) -> Answer
 fn of_check(checked: Result<(), Refusal>) -> Answer
     ensures { answer_of result ≡ shown (check_answer checked) }
 {
-    match checked {
-        Ok(()) => acceptance(0),
-        Err(refusal) => Answer::from(refusal),
-    }
+    checked.map_or_else(Answer::from, |()| acceptance(0))
 }
 
 // The answer of a run of a book or of a strip.
 fn of_run(ran: Result<Ended, Refusal>) -> Answer
     ensures { answer_of result ≡ shown (ran_answer ran) }
 {
-    match ran {
-        Ok(ended) => of_ended(ended),
-        Err(refusal) => Answer::from(refusal),
-    }
+    ran.map_or_else(Answer::from, of_ended)
 }
 
 // The answer of a translation.
 fn of_translation(translated: Result<usize, Refusal>) -> Answer
     ensures { answer_of result ≡ shown (translated_answer translated) }
 {
-    match translated {
-        Ok(length) => acceptance(length),
-        Err(refusal) => Answer::from(refusal),
-    }
+    translated.map_or_else(Answer::from, acceptance)
 }
 
 // Judges a book, and then a board of the kinds that it declares.

@@ -10,7 +10,8 @@ use mathlib.Core.List.{List, [], ◌∷◌, ◌++◌, append-nil, append_assoc}
 use lib.ListN.{length, get_or, set, replicate, length-set, length-append, length-replicate}
 use lib.Seq.{get_or-set_same, get_or-set_other}
 use lib.Dec.{eqb, ltb}
-use borrow.Author.Tests.{lt-ltb, eq-eqb, ne_eqb}
+use mir.Val.{bool_byte}
+use borrow.Author.Tests.{lt-ltb}
 use native.Mathlib.Decide.{ℕ_discrete}
 use Rattle.meaning.specs.Facts.{Kind, Fact, is_card}
 use Rattle.meaning.specs.Firing.{of_class}
@@ -171,12 +172,10 @@ pub record Using (marks used : List ℕ) (next : ℕ) : Type 0 where
   pub size : length used ≡ 256
   pub done : (row : ℕ) → row < next → used_in used row ≡ used_of marks row
 
--- a mark as a byte
-pub byte-used : (mark : ℕ) → mark ≡ 2 → not (eqb 1 0) ≡ eqb mark 2
-byte-used mark e = rw (eq-eqb mark 2 e)
-
-pub byte-free : (mark : ℕ) → (mark ≡ 2 → ⊥) → not (eqb 0 0) ≡ eqb mark 2
-byte-free mark n = rw (ne_eqb mark 2 n)
+-- a byte that says so
+pub byte_says : (b : Bool) → not (eqb (bool_byte b) 0) ≡ b
+byte_says true = refl
+byte_says false = refl
 
 pub using_put : (marks used : List ℕ) (next : ℕ) → Using marks used next → next < 256 → (v : ℕ) → not (eqb v 0) ≡ eqb (get_or marks next 0) 2
     → (used' : List ℕ) → used' ≡ set used next v → Using marks used' (next + 1)

@@ -1,5 +1,6 @@
 pub mod PlaceLaws
 pub mod MarkLaws
+pub mod NumberLaws
 pub mod StripLaws
 pub mod FactLaws
 pub mod WordLaws

@@ -1,13 +1,13 @@
 // One firing of a strip: an attempt, and the board after it.
-ghost use Rattle.std.specs.Prelude.{◌≡◌, not, eqb, ℕ, ◌+◌, ◌*◌, ◌≤◌, ◌<◌, length, get_or, set};
+ghost use Rattle.std.specs.Prelude.{◌≡◌, ℕ, ◌+◌, ◌*◌, ◌≤◌, ◌<◌, length, get_or, set};
 ghost use Rattle.meaning.specs.Firing.{of_class};
 ghost use Rattle.kinds.specs.Listed.{kinds_of};
 ghost use Rattle.rows.specs.Held.{four_from, facts_from, with_four};
 ghost use Rattle.settling.specs.Settles.{used_in};
-ghost use Rattle.machine.specs.Represents.{used_of};
+ghost use Rattle.machine.specs.Represents.{marks_of, used_of};
 ghost use Rattle.machine.specs.Firings.{ClassLaid, MadeReady, MadeSettled, Playable, Looked};
 
-use crate::{Chains, Tables, Turn, attempt};
+use crate::{Chains, Mark, Tables, Turn, attempt};
 use board::Board;
 use kinds::Kinds;
 use rows::{Count, MadeCards, Rows, fact_at, put_fact};
@@ -71,23 +71,13 @@ fn lay(
     }
 }
 
-// A card's mark as a byte that is not 0 where the card is used: a card that is only held stays.
-fn used_byte(mark: u8) -> u8
-    ensures { not (eqb result 0) ≡ eqb mark 2 }
-{
-    if mark == 2 {
-        return 1;
-    }
-    0
-}
-
-// The used cards alone. (Every byte is stored, so that many are made at once.)
-fn used_cards(marks: &[u8; 256]) -> [u8; 256]
-    ensures { (row : ℕ) → row < 256 → used_in result row ≡ used_of marks.now row }
+// The used cards alone, as bytes that are not 0: a card that is only held stays. (Every byte is stored, so that many are made at once.)
+fn used_cards(marks: &[Mark; 256]) -> [u8; 256]
+    ensures { (row : ℕ) → row < 256 → used_in result row ≡ used_of (marks_of marks.now) row }
 {
     let mut used = [0; 256];
     for row in 0..Board::CARDS {
-        used[row] = used_byte(marks[row]);
+        used[row] = u8::from(marks[row] == Mark::Used);
     }
     used
 }
@@ -98,13 +88,13 @@ fn settle_made(
     kinds: &Kinds,
     rows: &mut Rows,
     count: Count,
-    marks: &[u8; 256],
+    marks: &[Mark; 256],
     made: &Rows,
     made_count: Count,
     cards: &mut MadeCards,
 ) -> Option<Count>
     requires { MadeReady (kinds_of kinds.now) rows.old.kind rows.old.numbers count made.now.kind made.now.numbers made_count.cards made_count.notices }
-    ensures { MadeSettled (kinds_of kinds.now) rows.old.kind rows.old.numbers count marks.now made.now.kind made.now.numbers made_count.cards made_count.notices rows.new.kind rows.new.numbers result }
+    ensures { MadeSettled (kinds_of kinds.now) rows.old.kind rows.old.numbers count (marks_of marks.now) made.now.kind made.now.numbers made_count.cards made_count.notices rows.new.kind rows.new.numbers result }
 {
     if Board::NOTICES - count.notices < made_count.notices {
         return None;

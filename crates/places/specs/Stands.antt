@@ -1,47 +1,31 @@
 -- What the readers by position answer, for any bytes: past the longest book nothing stands. On a file no longer than that they read what
 -- crates/files InPlace does (StandsLaws).
-use Rattle.std.specs.Prelude.{ℕ, zero, suc, ◌+◌, ◌*◌, ◌<◌, ◌≡◌, Bool, ◌&&◌, List, eqb, ltb, if◌then◌else◌}
+use Rattle.std.specs.Prelude.{ℕ, zero, suc, ◌+◌, ◌*◌, ◌<◌, ◌≡◌, Bool, ◌&&◌, List, ltb, if◌then◌else◌}
 use Rattle.meaning.specs.Facts.{Kind, longest_book, most_in_rule, most_in_sweep, most_sweeps, arity_of}
 use Rattle.files.specs.Marks.{is_mark, RU, BA, TE, HE, SW}
 use Rattle.files.specs.InPlace.{byte_at, two_at}
-use Rattle.meaning.specs.Rules as M
-use Rattle.places.specs.declared.Term.{Term}
-use Rattle.places.specs.declared.Term.TheVariants as T
-use Rattle.places.specs.declared.Comparison.{Comparison}
-use Rattle.places.specs.declared.Comparison.TheVariants as C
-use Rattle.places.specs.declared.Test.{Test}
+use Rattle.words.specs.declared.Term.{Term}
+use Rattle.words.specs.declared.Term.TheVariants as T
+use Rattle.words.specs.declared.Comparison.TheVariants as C
+use Rattle.words.specs.declared.Test.{Test}
+use Rattle.words.specs.Meant.{term_tagged, comparison_numbered}
 use Rattle.places.specs.declared.Span.{Span}
 use Rattle.places.specs.declared.Conditions.{Conditions}
 
 abbrev pub mark_stands : List ℕ → List ℕ → ℕ → Bool
 mark_stands file mark p = ltb p longest_book && is_mark mark (byte_at file p) (byte_at file (p + 1))
 
--- the term that the enum says (crates/meaning Rules), and the comparison
-abbrev pub term_said : Term → M.Term
-term_said (T.Constant v) = M.constant v
-term_said (T.Variable v) = M.variable v
-
-abbrev pub comparison_said : Comparison → M.Comparison
-comparison_said C.Equal = M.equal
-comparison_said C.Unequal = M.unequal
-comparison_said C.Less = M.less
-comparison_said C.LessOrEqual = M.less_or_equal
-
 -- a term by its tag; what it says is `term_at` of crates/files
 abbrev pub term_stands : List ℕ → ℕ → Term
-term_stands file p = if eqb (byte_at file p) 0 then T.Constant (two_at file (p + 1)) else T.Variable (two_at file (p + 1))
+term_stands file p = term_tagged (byte_at file p) (two_at file (p + 1))
 
 abbrev pub zero_term : Term
 zero_term = T.Constant 0
 
--- a comparison by its number
-abbrev pub comparison_stands : ℕ → Comparison
-comparison_stands number = if eqb number 0 then C.Equal else if eqb number 1 then C.Unequal else if eqb number 2 then C.Less else C.LessOrEqual
-
 -- a test; what it says is `test_at` of crates/files
 abbrev pub test_stands : List ℕ → ℕ → Test
 test_stands file p =
-    if ltb p longest_book then record { comparison = comparison_stands (byte_at file p); left = term_stands file (p + 1); right = term_stands file (p + 4) }
+    if ltb p longest_book then record { comparison = comparison_numbered (byte_at file p); left = term_stands file (p + 1); right = term_stands file (p + 4) }
     else record { comparison = C.Equal; left = zero_term; right = zero_term }
 
 -- a kind, and three bytes for each argument

@@ -8,9 +8,10 @@ use Rattle.meaning.specs.Facts.{Kind, longest_book, most_in_rule, most_in_sweep,
 use Rattle.meaning.specs.Rules.{constant, variable, Atom, equal, unequal, less, less_or_equal, Test}
 use Rattle.files.specs.Marks.{is_mark, RU, BA, TE, HE, SW}
 use Rattle.files.specs.InPlace.{byte_at, two_at, term_at, test_at, atom_at, groups_at, rule_at, comparison_of, Read, prepend, records_at}
-use Rattle.places.specs.Stands.{mark_stands, term_said, comparison_said, term_stands, comparison_stands, test_stands, atom_end, records_from, atoms_from, tests_from, conditions_of, conditions_from, groups_end, sweeps_from, rule_end, rules_from}
-use Rattle.places.specs.declared.Term.TheVariants as T
-use Rattle.places.specs.declared.Comparison.TheVariants as C
+use Rattle.places.specs.Stands.{mark_stands, term_stands, test_stands, atom_end, records_from, atoms_from, tests_from, conditions_of, conditions_from, groups_end, sweeps_from, rule_end, rules_from}
+use Rattle.words.specs.declared.Term.TheVariants as T
+use Rattle.words.specs.declared.Comparison.TheVariants as C
+use Rattle.words.specs.Meant.{as_term, as_comparison, as_test, comparison_numbered}
 use Rattle.places.specs.declared.Span.{Span}
 use Rattle.places.specs.declared.Conditions.{Conditions}
 
@@ -62,25 +63,40 @@ from_is {A} file mark after item short letter ends (suc left) n p =
     by false read h = ap (λ (k : ℕ). record { count = k; next = p }) (sym (add-zero n))
 
 -- the term and the test say what InPlace reads
-pub term_is : (file : List ℕ) (p : ℕ) → term_said (term_stands file p) ≡ term_at file p
+pub term_is : (file : List ℕ) (p : ℕ) → as_term (term_stands file p) ≡ term_at file p
 term_is file p = by (eqb (byte_at file p) 0)
   where
-    by : (t : Bool) → term_said (if t then T.Constant (two_at file (p + 1)) else T.Variable (two_at file (p + 1))) ≡ (if t then constant (two_at file (p + 1)) else variable (two_at file (p + 1)))
+    by : (t : Bool) → as_term (if t then T.Constant (two_at file (p + 1)) else T.Variable (two_at file (p + 1))) ≡ (if t then constant (two_at file (p + 1)) else variable (two_at file (p + 1)))
     by true = refl
     by false = refl
 
-comparison_is : (number : ℕ) → comparison_said (comparison_stands number) ≡ comparison_of number
+comparison_is : (number : ℕ) → as_comparison (comparison_numbered number) ≡ comparison_of number
 comparison_is number = by (eqb number 0) (eqb number 1) (eqb number 2)
   where
-    by : (t u v : Bool) → comparison_said (if t then C.Equal else if u then C.Unequal else if v then C.Less else C.LessOrEqual) ≡ (if t then equal else if u then unequal else if v then less else less_or_equal)
+    by : (t u v : Bool) → as_comparison (if t then C.Equal else if u then C.Unequal else if v then C.Less else C.LessOrEqual) ≡ (if t then equal else if u then unequal else if v then less else less_or_equal)
     by true u v = refl
     by false true v = refl
     by false false true = refl
     by false false false = refl
 
-pub test-is : (file : List ℕ) (p : ℕ) → p < longest_book → let t = test_stands file p in
-    record { comparison = comparison_said t.comparison; left = term_said t.left; right = term_said t.right } ≡ (test_at file p).value
+pub test-is : (file : List ℕ) (p : ℕ) → p < longest_book → as_test (test_stands file p) ≡ (test_at file p).value
 test-is file p near = rw (lt-ltb p longest_book near, comparison_is (byte_at file p), term_is file (p + 1), term_is file (p + 4))
+
+-- past the end of the file a test of zeros stands
+term_past : (file : List ℕ) (p : ℕ) → length file ≤ p → term_at file p ≡ constant 0
+term_past file p past =
+    let zeros : (q : ℕ) → p ≤ q → byte_at file q ≡ 0 = λ q far. get_or-eq_default file 0 (omega (arith, past, far)) in
+    rw (zeros p (omega arith), zeros (p + 1) (omega arith), zeros (p + 1 + 1) (omega arith))
+
+pub test_reads : (file : List ℕ) (p : ℕ) → length file ≤ longest_book → as_test (test_stands file p) ≡ (test_at file p).value
+test_reads file p short = by (ltb p longest_book) refl
+  where
+    by : (t : Bool) → ltb p longest_book ≡ t → as_test (test_stands file p) ≡ (test_at file p).value
+    by true e = test-is file p (ltb-true p longest_book e)
+    by false e =
+        let past : length file ≤ p = omega (arith, short, ltb-false p longest_book e) in
+        let number : byte_at file p ≡ 0 = get_or-eq_default file 0 past in
+        rw (e, number, term_past file (p + 1) (omega (arith, past)), term_past file (p + 4) (omega (arith, past)))
 
 -- ---- groups, sweeps and rules
 

@@ -4,34 +4,14 @@
 ghost use Rattle.std.specs.Prelude.{◌≡◌, ℕ, ◌+◌, ◌*◌, ◌≤◌, ◌<◌, length};
 ghost use Rattle.meaning.specs.Facts.{longest_book};
 ghost use Rattle.kinds.specs.Listed.{kinds_of};
-ghost use Rattle.places.specs.Stands.{mark_stands, term_stands, comparison_stands, test_stands, atom_size, Computes, records_from, atoms_from, tests_from, conditions_from, groups_end, sweeps_from, rule_end, rules_from};
+ghost use Rattle.files.specs.InPlace.{term_at, test_at};
+ghost use Rattle.words.specs.Meant.{as_term, as_test};
+ghost use Rattle.places.specs.Stands.{mark_stands, term_stands, test_stands, atom_size, Computes, records_from, atoms_from, tests_from, conditions_from, groups_end, sweeps_from, rule_end, rules_from};
 
 use book::Book;
 use fields::{byte_at, two_at};
 use kinds::Kinds;
-
-// A term: a constant, or a variable by its number.
-#[derive(Clone, Copy, Debug, PartialEq, Eq)]
-pub enum Term {
-    Constant(u16),
-    Variable(u16),
-}
-
-// How a test compares its terms.
-#[derive(Clone, Copy, Debug, PartialEq, Eq)]
-pub enum Comparison {
-    Equal,
-    Unequal,
-    Less,
-    LessOrEqual,
-}
-
-#[derive(Clone, Copy, Debug, PartialEq, Eq)]
-pub struct Test {
-    pub comparison: Comparison,
-    pub left: Term,
-    pub right: Term,
-}
+use words::{Comparison, Term, Test};
 
 // So many records, and the place after them.
 #[derive(Clone, Copy)]
@@ -50,20 +30,6 @@ pub struct Conditions {
     pub heads_at: usize,
 }
 
-// By the number of a test; a number above 3, which no accepted book has, is read as 3.
-impl From<u8> for Comparison {
-    ghost from_gives = { λ number comparison. comparison ≡ comparison_stands number };
-
-    fn from(number: u8) -> Comparison {
-        match number {
-            0 => Comparison::Equal,
-            1 => Comparison::Unequal,
-            2 => Comparison::Less,
-            _ => Comparison::LessOrEqual,
-        }
-    }
-}
-
 // Does a record with the mark stand at the place? Past the longest book none does.
 pub fn is_marked(book: &[u8], at: usize, mark: &[u8; 2]) -> bool
     ensures { result ≡ mark_stands book.now mark.now at }
@@ -73,18 +39,18 @@ pub fn is_marked(book: &[u8], at: usize, mark: &[u8; 2]) -> bool
 
 // The term at a place; past the end the constant 0.
 pub fn term_at(book: &[u8], at: usize) -> Term
-    ensures { result ≡ term_stands book.now at }
+    ensures { (result ≡ term_stands book.now at) × (as_term result ≡ term_at book.now at) }
 {
     match book.get(at) {
         None => Term::Constant(0),
-        Some(0) => Term::Constant(two_at(book, at + 1)),
-        Some(_) => Term::Variable(two_at(book, at + 1)),
+        Some(tag) => Term::tagged(*tag, two_at(book, at + 1)),
     }
 }
 
 // The test whose number stands at a place; past the longest book one of zeros.
+#[tactic(auto, using(crate::specs::StandsLaws::test_reads))]
 pub fn test_at(book: &[u8], at: usize) -> Test
-    ensures { result ≡ test_stands book.now at }
+    ensures { (result ≡ test_stands book.now at) × (length book.now ≤ longest_book → as_test result ≡ (test_at book.now at).value) }
 {
     if Book::LONGEST <= at {
         return Test {

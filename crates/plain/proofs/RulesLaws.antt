@@ -1,6 +1,6 @@
 -- The walk over a book's rules. The loop's invariant, `Placing`: the places found so far, and those from here on, are all the rules' places.
 use Rattle.std.specs.Prelude.{if◌then◌else◌}
-use Prim.Native.Nat.{ℕ, zero, suc, ◌+◌, ◌*◌, ◌-◌, ◌^◌, ◌≤◌, ◌<◌}
+use Prim.Native.Nat.{ℕ, zero, suc, ◌+◌, ◌*◌, ◌-◌, ◌≤◌, ◌<◌}
 use native.Mathlib.Nat.{zero-add}
 use native.Mathlib.Omega.{arith}
 use mathlib.Core.Path.{◌≡◌, refl, sym, ap, ap₂, ◌∙◌}
@@ -99,12 +99,6 @@ module _ (file : List ℕ) (kinds : List Kind) (at : List ℕ) (count next : ℕ
     module _ (e : not marked ≡ false) where
       pub place_near : next < longest_book
       place_near = stands_near file RU next (sym m ∙ not-false marked e)
-
-      pub place_adds : next + 2 < 2 ^ 64
-      place_adds = omega (arith, place_near)
-
-      pub place_fits : next + 2 < 2 ^ 16
-      place_fits = omega (arith, place_near)
 
       pub place_next : count < most_rules → (after : ℕ) → after ≡ rule_end file kinds (next + 2) → Placing file kinds (set at count (next + 2)) (count + 1) after
       place_next h after w = record {

@@ -12,7 +12,7 @@ use Rattle.rows.specs.declared.Count.{Count}
 use Rattle.runs.specs.declared.End.TheVariants as E
 use Rattle.runs.specs.declared.Ran as R
 use Rattle.runs.specs.Runs.{board_in, ran_with, RunEnds}
-use Rattle.runs.specs.Repeats.{Going, going_start, going_limit, going_by, going_on}
+use Rattle.runs.specs.Repeats.{Going, going_limit, going_by, going_on}
 use Rattle.plain.specs.declared.rules.Rules.{Rules}
 use Rattle.plain.specs.declared.firing.Look.{Look}
 use Rattle.plain.specs.declared.firing.Look.TheVariants as L
@@ -25,11 +25,6 @@ attempts book board = done (fire (book_at book) board)
 pub record Running (book : List ℕ) (kinds : List Kind) (rules : Rules) (start : Board) (limit : ℕ) (kind numbers : List ℕ) (count : Count) (firings rule : ℕ) : Type 0 where
   pub playable : Playable book kinds rules kind numbers count
   pub going : Going (attempts book) start limit (board_in kinds kind numbers count) firings rule
-
-pub run-start : (book : List ℕ) (kinds : List Kind) (rules : Rules) (limit : ℕ) (kind numbers : List ℕ) (count : Count)
-    → Playable book kinds rules kind numbers count → Running book kinds rules (board_in kinds kind numbers count) limit kind numbers count 0 255
-run-start book kinds rules limit kind numbers count p =
-    record { playable = p; going = going_start (attempts book) limit (board_in kinds kind numbers count) }
 
 module _ (book : List ℕ) (kinds : List Kind) (rules : Rules) (start : Board) (limit : ℕ) (kind numbers : List ℕ) (count : Count) (firings rule : ℕ)
     (s : Running book kinds rules start limit kind numbers count firings rule) where

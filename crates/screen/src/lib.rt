@@ -38,7 +38,7 @@ fn last_digit(n: u64) -> u8
     b'0' + (n % 10) as u8
 }
 
-// Does a record with the mark stand at the place?
+// Does a record with the mark stand at the place? (As `marked_at` of rows: shared it would be public, and public functions ask nothing of a caller.)
 fn is_marked(board: &[u8], at: usize, mark: &[u8; 2]) -> bool
     requires { at < 1000000 }
     ensures { result ≡ is_mark mark.now (byte_at board.now at) (byte_at board.now (at + 1)) }

@@ -1,4 +1,3 @@
-pub mod Words
 pub mod Written
 pub mod Parts
 pub mod Answers
