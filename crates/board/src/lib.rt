@@ -101,7 +101,7 @@ fn refusal(reason: Reason, at: usize, end: usize) -> Refusal
     }
 }
 
-// Judges a file as a board of those kinds, record by record; what is left of the file is handed on.
+// Judges a file as a board of those kinds, record by record; what is left of the file is handed on. (A `loop`: it goes on by as many bytes as a record has.)
 pub fn check_board(kinds: Kinds, board: &[u8]) -> Result<(), Refusal>
     ensures { told_by result ≡ about N.board (told (judge_board (kinds_of kinds) board.now)) }
 {

@@ -476,7 +476,8 @@ impl Book {
     }
 }
 
-// Is the file a book? A refusal tells why not: record after record, each from what is left of the file.
+// Is the file a book? A refusal tells why not: record after record, each from what is left of the file. (A `while`: it goes on by as many bytes as a
+// record has.)
 #[tactic(auto, using(crate::proofs::LoopLaws::turns))]
 pub fn check_book(book: &[u8]) -> Result<(), Refusal>
     ensures { told_by result ≡ about N.book (told (judge_book book.now)) }

@@ -1,4 +1,4 @@
-// The engine: document 01's six entries under one roof. Every function takes any bytes. crates/engine_c hands them to other languages.
+// The engine: document 01's six entries under one roof. Every function takes any bytes. crates/engine_c hands them to other languages, under these names.
 #![tactic(auto)]
 
 ghost use Rattle.std.specs.Prelude.{◌≡◌, ℕ, ◌<◌, length};

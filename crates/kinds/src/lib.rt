@@ -6,7 +6,8 @@ ghost use Rattle.meaning.specs.Facts.{arity_of};
 ghost use Rattle.files.specs.Board.{is_of_class};
 ghost use Rattle.kinds.specs.Listed.{kinds_of, no_kinds, with_kind};
 
-// So many kinds, at most 32: each one's class (0 card, 1 notice) and how many numbers it has.
+// So many kinds, at most 32: each one's class (0 card, 1 notice) and how many numbers it has. (A class stays a byte: `with` takes any byte of any file,
+// and `kinds_of` says that whatever is not 0 is a notice. Arrays and a count, since the engine has no heap.)
 #[derive(Clone, Copy)]
 pub struct Kinds {
     pub count: usize,

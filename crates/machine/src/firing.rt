@@ -48,7 +48,8 @@ impl Space {
     }
 }
 
-// The facts of a class among so many made ones are copied, in order, to the rows from the first on.
+// The facts of a class among so many made ones are copied, in order, to the rows from the first on. (The two arrays are those of `Rows` or of
+// `MadeCards`, which differ in length.)
 fn lay(
     kinds: &Kinds,
     card: bool,

@@ -18,7 +18,8 @@ use rows::{Count, Rows};
 use runs::{End, Ended, Ran, stopped};
 use strip::check_strip;
 
-// Attempt after attempt, each with the whole allowance, until the limit is reached or one ends without a firing.
+// Attempt after attempt, each with the whole allowance, until the limit is reached or one ends without a firing. (Not one loop with the plain runner's:
+// docs/DECISIONS.md, 40.)
 fn run(
     strip: &[u8],
     kinds: &Kinds,

@@ -10,7 +10,7 @@ use book::Book;
 use kinds::Kinds;
 use places::{is_marked, rule_end};
 
-// The places of the rules' bodies in the book, found once.
+// The places of the rules' bodies in the book, found once. (An array and a count, since the engine has no heap.)
 #[derive(Clone, Copy)]
 pub(in crate) struct Rules {
     pub at: [u16; 32],

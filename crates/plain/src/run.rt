@@ -20,7 +20,7 @@ use kinds::Kinds;
 use rows::{Count, MadeCards, Rows};
 use runs::{End, Ended, Ran, stopped};
 
-// Firing after firing, until the limit is reached, no rule fits or the board is full.
+// Firing after firing, until the limit is reached, no rule fits or the board is full. (Not one loop with the strip machine's: docs/DECISIONS.md, 40.)
 fn run(book: &[u8], kinds: &Kinds, rules: &Rules, rows: &mut Rows, count: Count, limit: u16) -> Ran
     requires { Playable book.now (kinds_of kinds.now) rules.now rows.old.kind rows.old.numbers count × (kinds.now.count ≤ most_kinds) }
     ensures { RunEnds (F.run (book_at book.now) limit (board_in (kinds_of kinds.now) rows.old.kind rows.old.numbers count)) (kinds_of kinds.now) rows.new.kind rows.new.numbers result }

@@ -75,6 +75,7 @@ fn is_term(tag: usize, value: usize) -> bool
     tag <= 1 && (tag == 0 || value < Strip::REGISTERS)
 }
 
+// (A match on the number with a range arm: docs/DECISIONS.md, 'Forms that document 01 names'.)
 impl TryFrom<u8> for Code {
     type Error = Reason;
 

@@ -99,7 +99,7 @@ pub fn read_or_empty<'a>(rt: HostRuntime, name: &[u8], out: &'a mut [u8]) -> Res
 
 // ---- writing: a file is written whole or not at all
 
-// Opens a file that is there, to be written.
+// Opens a file that is there, to be written. (Apart from `create`: each is one chain of the options that it opens with.)
 fn open_update(rt: HostRuntime, name: &[u8]) -> io::Result<File> {
     OpenOptions::new()
         .read(true)
