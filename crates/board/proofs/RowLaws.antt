@@ -7,7 +7,7 @@ use Rattle.std.specs.Prelude.{Ok, Err}
 use native.Mathlib.Nat.{add-zero}
 use native.Mathlib.Numerals.{add-one, add-two}
 use native.Mathlib.Omega.{arith}
-use lib.ListN.{length, get_or, drop}
+use lib.ListN.{length, drop}
 use lib.Seq.{drop-cons}
 use Rattle.meaning.specs.Facts.{Kind, arity_of}
 use Rattle.files.specs.Numbers.{Refusal, CUT, FIELD}
@@ -52,7 +52,7 @@ numbers-whole n (suc m) file p next h =
 
 -- a row opens with the kind
 abbrev Opens : List ℕ → ℕ → Type 0
-Opens rest kind = (0 < length rest) × ((d : ℕ) → kind ≡ get_or rest 0 d)
+Opens rest kind = (0 < length rest) × (kind ≡ byte_at rest 0)
 
 module _ (kinds : List Kind) (card : Bool) where
   pub too_short : (rest : List ℕ) (kind : ℕ) (r : Bool) (a : ℕ) → Opens rest kind → r ≡ is_of_class kinds card kind → r ≡ true
@@ -61,7 +61,7 @@ module _ (kinds : List Kind) (card : Bool) where
   too_short (x ∷ rest) kind r a h e t p l = record {
     fits = tt;
     says = λ n at next.
-        let same : kind ≡ x = h.1 0 in
+        let same : kind ≡ x = h.1 in
         demand-true (is_of_class kinds card x) FIELD at _ (rw same at (sym e ∙ t))
         ∙ numbers_cut n (arity_of kinds x) rest _ (omega (arith, rw same at p));
   }
@@ -72,7 +72,7 @@ module _ (kinds : List Kind) (card : Bool) where
   whole (x ∷ rest) kind r a h e t p l = record {
     fits = l;
     says = λ n at next.
-        let same : kind ≡ x = h.1 0 in
+        let same : kind ≡ x = h.1 in
         let here : a ≡ arity_of kinds x = rw same at p in
         demand-true (is_of_class kinds card x) FIELD at _ (rw same at (sym e ∙ t))
         ∙ numbers-whole n (arity_of kinds x) (x ∷ rest) 1 (λ vs more. next (record { kind = x; numbers = vs }) more) (omega (arith, here))

@@ -11,6 +11,7 @@ ghost use Rattle.answers.specs.declared.File.TheVariants as F;
 ghost use Rattle.board.specs.Says.{told_at, RowSays, RecordSays};
 
 use answers::{File, Reason, Refusal};
+use fields::byte_at;
 use kinds::Kinds;
 
 // The home of a board's sizes and marks.
@@ -40,12 +41,13 @@ enum Record {
 }
 
 // How many bytes the fields of a row of the class are: its kind, then its numbers.
-fn row_fields(kinds: Kinds, card: bool, rest: &[u8]) -> Result<usize, Reason>
-    ensures { RowSays (kinds_of kinds) card rest.now result }
+fn row_fields(kinds: &Kinds, card: bool, rest: &[u8]) -> Result<usize, Reason>
+    ensures { RowSays (kinds_of kinds.now) card rest.now result }
 {
-    let Some(&kind) = rest.first() else {
+    if rest.is_empty() {
         return Err(Reason::Cut);
-    };
+    }
+    let kind = byte_at(rest, 0);
     if !kinds.is_of_class(card, kind) {
         return Err(Reason::Field);
     }
@@ -57,8 +59,8 @@ fn row_fields(kinds: Kinds, card: bool, rest: &[u8]) -> Result<usize, Reason>
 }
 
 // Judges the record at the start of what is left, after so many cards and notices.
-fn board_record(kinds: Kinds, rest: &[u8], cards: usize, notices: usize) -> Result<Record, Reason>
-    ensures { RecordSays (kinds_of kinds) rest.now cards notices result }
+fn board_record(kinds: &Kinds, rest: &[u8], cards: usize, notices: usize) -> Result<Record, Reason>
+    ensures { RecordSays (kinds_of kinds.now) rest.now cards notices result }
 {
     let Some((mark, fields)) = rest.split_first_chunk::<2>() else {
         return Err(Reason::Cut);
@@ -111,7 +113,7 @@ pub fn check_board(kinds: Kinds, board: &[u8]) -> Result<(), Refusal>
     let mut notices = 0;
     'records: loop {
         let at = n - rest.len();
-        match board_record(kinds, rest, cards, notices) {
+        match board_record(&kinds, rest, cards, notices) {
             Ok(Record::Card(size)) => {
                 cards += 1;
                 rest = &rest[size..];

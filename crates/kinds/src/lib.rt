@@ -49,7 +49,7 @@ impl Kinds {
         ensures { result ≡ is_of_class (kinds_of self) card kind }
     {
         let at = usize::from(kind);
-        at < self.count.min(Kinds::MOST) && (self.class[at] == 0) == card
+        at < self.count && at < Kinds::MOST && (self.class[at] == 0) == card
     }
 
     // How many numbers a fact of the kind has; none where it is not declared.
@@ -58,7 +58,7 @@ impl Kinds {
         ensures { result ≡ arity_of (kinds_of self) kind }
     {
         let at = usize::from(kind);
-        if at < self.count.min(Kinds::MOST) {
+        if at < self.count && at < Kinds::MOST {
             self.arity[at]
         } else {
             0

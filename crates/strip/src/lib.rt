@@ -15,7 +15,7 @@ ghost use Rattle.strip.specs.Leading.{leading_kinds};
 
 use answers::{File, Reason, Refusal};
 use book::Book;
-use fields::{byte_at, two_at};
+use fields::byte_at;
 use kinds::Kinds;
 
 // The home of a strip's sizes.
@@ -72,7 +72,7 @@ struct Earlier {
 fn is_term(tag: usize, value: usize) -> bool
     ensures { result ≡ is_term tag value }
 {
-    tag <= 1 && (tag == 0 || value < Strip::REGISTERS)
+    (tag <= 1) & ((tag == 0) | (value < Strip::REGISTERS))
 }
 
 // (A match on the number with a range arm: docs/DECISIONS.md, 'Forms that document 01 names'.)
@@ -102,22 +102,22 @@ impl TryFrom<u8> for Code {
 }
 
 impl Word {
-    // The word at a place, if its code is known.
+    // The word at a place, if its code is known. (Its other bytes are known to be there: they are read at once, without a test for each.)
     fn at(strip: &[u8], at: usize) -> Result<Word, Reason>
         requires { at + 8 ≤ length strip.now }
         ensures { MatchResult result (λ word. fields_of word ≡ fields_at strip.now at) (λ _. 12 < byte_at strip.now at) }
     {
         Ok(Word {
             code: Code::try_from(byte_at(strip, at))?,
-            a: byte_at(strip, at + 1),
-            b: byte_at(strip, at + 2),
-            c: byte_at(strip, at + 3),
-            value: two_at(strip, at + 4),
-            target: two_at(strip, at + 6),
+            a: strip[at + 1],
+            b: strip[at + 2],
+            c: strip[at + 3],
+            value: u16::from_le_bytes([strip[at + 4], strip[at + 5]]),
+            target: u16::from_le_bytes([strip[at + 6], strip[at + 7]]),
         })
     }
 
-    // Is every field in its range and every unused byte zero?
+    // Is every field in its range and every unused byte zero? (The tests are joined by `&`: none is skipped, so that a word costs one branch.)
     fn is_good(self, size: usize, before: Earlier) -> bool
         ensures { result ≡ word_is_good size (earlier_of before) (fields_of self) }
     {
@@ -136,28 +136,29 @@ impl Word {
         let no_value = value == 0;
         let no_target = self.target == 0;
         match self.code {
-            Code::Kind => a <= 1
-                && b <= Kinds::NUMBERS
-                && no_c
-                && no_value
-                && no_target
-                && room
-                && !before.others,
-            Code::Open => cursor && no_b && no_c && no_value && no_target,
-            Code::Seek => cursor && b < before.kinds && no_c && no_value && target,
-            Code::Bind => cursor && argument && register && no_value && no_target,
-            Code::Same => cursor && argument && register && no_value && target,
-            Code::Lit => cursor && argument && no_c && target,
-            Code::Test => a <= 15
-                && is_term(a / 2 % 2, b + 256 * c)
-                && is_term(a % 2, value)
-                && target,
-            Code::Keep => no_a && no_b && no_c && no_value && no_target,
-            Code::Put => a < before.kinds && no_b && no_c && no_value && no_target,
-            Code::Arg => a < Kinds::NUMBERS && is_term(b, value) && no_c && no_target,
-            Code::Jump => no_a && no_b && no_c && no_value && target,
-            Code::Fire => a < Book::RULES && no_b && no_c && no_value && no_target,
-            Code::Quiet => no_a && no_b && no_c && no_value && no_target,
+            Code::Kind => {
+                (a <= 1)
+                    & (b <= Kinds::NUMBERS)
+                    & no_c
+                    & no_value
+                    & no_target
+                    & room
+                    & !before.others
+            }
+            Code::Open => cursor & no_b & no_c & no_value & no_target,
+            Code::Seek => cursor & (b < before.kinds) & no_c & no_value & target,
+            Code::Bind => cursor & argument & register & no_value & no_target,
+            Code::Same => cursor & argument & register & no_value & target,
+            Code::Lit => cursor & argument & no_c & target,
+            Code::Test => {
+                (a <= 15) & is_term(a / 2 % 2, b + 256 * c) & is_term(a % 2, value) & target
+            }
+            Code::Keep => no_a & no_b & no_c & no_value & no_target,
+            Code::Put => (a < before.kinds) & no_b & no_c & no_value & no_target,
+            Code::Arg => (a < Kinds::NUMBERS) & is_term(b, value) & no_c & no_target,
+            Code::Jump => no_a & no_b & no_c & no_value & target,
+            Code::Fire => (a < Book::RULES) & no_b & no_c & no_value & no_target,
+            Code::Quiet => no_a & no_b & no_c & no_value & no_target,
         }
     }
 
