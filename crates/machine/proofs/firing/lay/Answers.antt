@@ -1,17 +1,11 @@
 -- `lay` goes through the made facts. The invariant: what is laid, then what is left, is the whole.
 use native.Mathlib.Omega.{arith}
-use Rattle.machine.proofs.LayLaws.{lay_start, lay_end, lay_pass, lay_room, lay_places, lay_put}
+use Rattle.machine.proofs.LayLaws.{lay_start, lay_end, lay_pass, lay_room, lay_put}
 use Rattle.machine.proofs.firing.lay.Goals.{then-is_of_class, else-is_of_class}
 use Rattle.machine.proofs.firing.lay.Goals as goal
 
 pub loop-from-init : goal.loop-from-init
 loop-from-init c = search lay_start
-
-pub put_fact-requires : goal.put_fact-requires
-put_fact-requires c =
-    let room = lay_room _ _ _ _ _ _ _ _ _ _ _ _ c.loop-from.invariant c.loop-from-test.true _ c.is_of_class.ensures c.if-is_of_class.true c.requires.4 in
-    let places = lay_places _ _ _ _ _ _ _ _ _ _ _ _ c.loop-from.invariant c.loop-from-test.true _ c.is_of_class.ensures c.if-is_of_class.true c.requires.4 c.requires.3 in
-    (room, places)
 
 pub overflow_add-to : goal.overflow_add-to
 overflow_add-to c = omega (arith, lay_room _ _ _ _ _ _ _ _ _ _ _ _ c.loop-from.invariant c.loop-from-test.true _ c.is_of_class.ensures c.if-is_of_class.true c.requires.4, c.loop-from.invariant.rows, c.requires.2)
