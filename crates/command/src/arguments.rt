@@ -1,12 +1,12 @@
 // The program's words: a fixed one, a number, a file's name.
-ghost use Rattle.std.specs.Prelude.{◌≤◌, length, IfOk, IfSome};
+ghost use Rattle.std.specs.Prelude.{◌≤◌, length, IfSome, MatchResult};
 ghost use Rattle.io.specs.Counts.{IsPrefixLen};
 
 use std::env::FillError;
 use std::ops::Range;
 use std::rt::Env;
 use std::str;
-use terminal::Told;
+use terminal::{Told, Unread};
 
 // How many bytes of a word are taken; a longer one counts as none.
 const LONGEST: usize = 4096;
@@ -70,8 +70,8 @@ impl Argument {
     }
 
     // Reads the file that it names. A name that is too long counts as empty, which no file has.
-    pub fn read<'a>(self, rt: HostRuntime, out: &'a mut [u8]) -> Result<&'a [u8], Told>
-        ensures { IfOk result (λ text. IsPrefixLen (length text.now) out.old) }
+    pub fn read<'a>(self, rt: HostRuntime, out: &'a mut [u8]) -> Result<&'a [u8], Unread>
+        ensures { MatchResult result (λ text. IsPrefixLen (length text.now) out.old) (λ error. IsPrefixLen error.bytes out.old) }
     {
         let mut space = [0; LONGEST];
         let name = self.bytes(rt, &mut space).unwrap_or(b"");

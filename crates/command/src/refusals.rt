@@ -2,8 +2,6 @@
 ghost use Rattle.std.specs.Prelude.{◌≡◌, []};
 
 use answers::{Answer, File, Reason};
-use std::fmt;
-use std::fmt::{Display, Formatter, Write};
 use strip::Strip;
 use terminal::say;
 use wording::refusals::meaning;
@@ -28,31 +26,25 @@ impl<'a> Files<'a> {
 }
 
 // Bytes as they are shown, each behind a blank.
-#[derive(Clone, Copy)]
-struct Shown<'a>(&'a [u8]);
-
-impl Display for Shown<'_> {
-    fn fmt<W: Write>(&self, f: &mut Formatter<W>) -> fmt::Result {
-        if self.0.is_empty() {
-            return f.write_str(" none");
-        }
-        for byte in self.0 {
-            write!(f, " {byte:02x}")?;
-        }
-        Ok(())
+fn say_shown(rt: HostRuntime, bytes: &[u8]) {
+    if bytes.is_empty() {
+        say(rt, " none");
     }
+    for byte in bytes {
+        say(rt, " ");
+        let _ = print!(rt; "{byte:02x}");
+    }
+    say(rt, "\n");
 }
 
 // The bytes around a place.
 fn say_around(rt: HostRuntime, file: &[u8], place: usize) {
     let at = place.min(file.len());
     let (before, there) = file.split_at(at);
-    let before = Shown(&before[at.saturating_sub(AROUND)..]);
-    let there = Shown(&there[..there.len().min(AROUND)]);
-    say(
-        rt,
-        format_args!("bytes before:{before}\nbytes there:{there}\n"),
-    );
+    say(rt, "bytes before:");
+    say_shown(rt, &before[at.saturating_sub(AROUND)..]);
+    say(rt, "bytes there:");
+    say_shown(rt, &there[..there.len().min(AROUND)]);
 }
 
 // The words for a refusal. A number that no reason has is told as a strip's, and a file that is none as the output.
@@ -66,10 +58,13 @@ pub fn explain(rt: HostRuntime, answer: Answer, files: Files) {
         File::Board => ("byte", 1, files.board),
         File::Book | File::Output => ("byte", 1, files.first),
     };
-    let given_for = meaning(reason);
-    say(
-        rt,
-        format_args!("{reason} at {unit} {place} of the {file}: {given_for}\n"),
-    );
+    say(rt, reason);
+    say(rt, format_args!(" at {unit} "));
+    let _ = rt.print(place);
+    say(rt, " of the ");
+    say(rt, file);
+    say(rt, ": ");
+    say(rt, meaning(reason));
+    say(rt, "\n");
     say_around(rt, bytes, size * place);
 }

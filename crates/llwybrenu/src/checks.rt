@@ -76,7 +76,8 @@ pub fn translate(rt: HostRuntime, book: Argument, target: Argument) -> Result<()
     }
     let strip = written(answer, &space);
     target.write(rt, strip)?;
-    let words = strip.len() / Strip::WORD;
-    say(rt, format_args!("translated: {words} words\n"));
+    say(rt, "translated: ");
+    let _ = rt.print(strip.len() / Strip::WORD);
+    say(rt, " words\n");
     Ok(())
 }

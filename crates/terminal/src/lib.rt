@@ -1,7 +1,7 @@
 // Files by name, for the programs. Why a file can't be read or written is said on standard error, with its name.
 #![tactic(auto)]
 
-ghost use Rattle.std.specs.Prelude.{◌≤◌, length, IfOk, IfSome};
+ghost use Rattle.std.specs.Prelude.{◌≡◌, ◌≤◌, length, IfSome, MatchResult};
 ghost use Rattle.io.specs.Counts.{IsPrefixLen};
 
 use std::fmt::Display;
@@ -14,6 +14,18 @@ use std::{fs, io, str};
 // Something failed, and why has been said on standard error.
 #[derive(Clone, Copy, Debug, PartialEq, Eq)]
 pub struct Told;
+
+// A file could not be read to its end, and why has been said on standard error: so many of its bytes were read before, to the start of those lent.
+#[derive(Clone, Copy, Debug, PartialEq, Eq)]
+pub struct Unread {
+    pub bytes: usize,
+}
+
+impl From<Unread> for Told {
+    fn from(_unread: Unread) -> Told {
+        Told
+    }
+}
 
 // An error's text without its number, which the library puts behind it.
 fn say_error(rt: HostRuntime, error: Error) {
@@ -36,6 +48,14 @@ fn fail(rt: HostRuntime, what: &[u8], error: Error) -> Told {
     say_error(rt, error);
     let _ = rt.eprint("\n");
     Told
+}
+
+// The same of a file that is read, of which there are so many bytes already.
+fn fail_read(rt: HostRuntime, name: &[u8], bytes: usize, error: Error) -> Unread
+    ensures { result.bytes ≡ bytes }
+{
+    fail(rt, name, error);
+    Unread { bytes }
 }
 
 // A file's name as the library takes it: as text.
@@ -65,33 +85,37 @@ fn read_on<'a>(
     name: &[u8],
     mut file: File,
     out: &'a mut [u8],
-) -> Result<&'a [u8], Told>
-    ensures { IfOk result (λ text. IsPrefixLen (length text.now) out.old) }
+) -> Result<&'a [u8], Unread>
+    ensures { MatchResult result (λ text. IsPrefixLen (length text.now) out.old) (λ error. IsPrefixLen error.bytes out.old) }
 {
     let mut done = 0;
     while done < out.len() {
         match file.read(&mut out[done..]) {
             Ok(0) => break,
             Ok(n) => done += n,
-            Err(error) => return Err(fail(rt, name, error)),
+            Err(error) => return Err(fail_read(rt, name, done, error)),
         }
     }
     Ok(&out[..done])
 }
 
 // Reads a file, into the bytes that it is given room in.
-pub fn read_file<'a>(rt: HostRuntime, name: &[u8], out: &'a mut [u8]) -> Result<&'a [u8], Told>
-    ensures { IfOk result (λ text. IsPrefixLen (length text.now) out.old) }
+pub fn read_file<'a>(rt: HostRuntime, name: &[u8], out: &'a mut [u8]) -> Result<&'a [u8], Unread>
+    ensures { MatchResult result (λ text. IsPrefixLen (length text.now) out.old) (λ error. IsPrefixLen error.bytes out.old) }
 {
-    let file = open_read(rt, name).map_err(|error| fail(rt, name, error))?;
+    let file = open_read(rt, name).map_err(|error| fail_read(rt, name, 0, error))?;
     read_on(rt, name, file, out)
 }
 
 // Reads a file; a missing one is empty.
-pub fn read_or_empty<'a>(rt: HostRuntime, name: &[u8], out: &'a mut [u8]) -> Result<&'a [u8], Told>
-    ensures { IfOk result (λ text. IsPrefixLen (length text.now) out.old) }
+pub fn read_or_empty<'a>(
+    rt: HostRuntime,
+    name: &[u8],
+    out: &'a mut [u8],
+) -> Result<&'a [u8], Unread>
+    ensures { MatchResult result (λ text. IsPrefixLen (length text.now) out.old) (λ error. IsPrefixLen error.bytes out.old) }
 {
-    match if_there(open_read(rt, name)).map_err(|error| fail(rt, name, error))? {
+    match if_there(open_read(rt, name)).map_err(|error| fail_read(rt, name, 0, error))? {
         Some(file) => read_on(rt, name, file, out),
         None => Ok(&out[..0]),
     }
@@ -187,7 +211,7 @@ pub fn write_file(rt: HostRuntime, name: &[u8], content: &[u8]) -> Result<(), To
 
 // ---- standard output
 
-// Writes a text, or what has one, to standard output.
+// Writes a text, or what has one, to standard output. Where it can't be written, that is told once for each call, so what calls this keeps its pieces apart.
 pub fn say(rt: HostRuntime, text: impl Display + Drop) {
     if let Err(error) = rt.print(text) {
         fail(rt, b"standard output", error);
