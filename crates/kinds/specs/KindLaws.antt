@@ -80,6 +80,9 @@ class_at kinds false k h l = rw (declared kinds k h l, card-at kinds k h l) (sam
 
 -- ---- one kind more
 
+pub with_full : (kinds : Kinds) (class arity : ℕ) → most_kinds ≤ kinds.count → kinds ≡ with_kind kinds class arity
+with_full kinds class arity h = rw (le-leb most_kinds kinds.count h)
+
 pub with-room : (kinds : Kinds) (class arity : ℕ) → kinds.count < most_kinds
     → record { count = kinds.count + 1; class = set kinds.class kinds.count class; arity = set kinds.arity kinds.count arity } ≡ with_kind kinds class arity
 with-room kinds class arity h = rw (lt-leb most_kinds kinds.count h)

@@ -4,29 +4,44 @@ use Rattle.std.specs.Prelude.{ℕ, zero, suc, ◌+◌, ◌*◌, ◌<◌, ◌≡�
 use Rattle.meaning.specs.Facts.{Kind, longest_book, most_in_rule, most_in_sweep, most_sweeps, arity_of}
 use Rattle.files.specs.Marks.{is_mark, RU, BA, TE, HE, SW}
 use Rattle.files.specs.InPlace.{byte_at, two_at}
-use Rattle.words.specs.declared.Term.{Term}
+use Rattle.words.specs.declared.Term.{Term as SaidTerm}
 use Rattle.words.specs.declared.Term.TheVariants as T
 use Rattle.words.specs.declared.Comparison.TheVariants as C
-use Rattle.words.specs.declared.Test.{Test}
+use Rattle.words.specs.declared.Test.{Test as SaidTest}
 use Rattle.words.specs.Meant.{term_tagged, comparison_numbered}
+use Rattle.places.specs.declared.Term.{Term}
+use Rattle.places.specs.declared.Test.{Test}
 use Rattle.places.specs.declared.Span.{Span}
 use Rattle.places.specs.declared.Conditions.{Conditions}
 
 abbrev pub mark_stands : List ℕ → List ℕ → ℕ → Bool
 mark_stands file mark p = ltb p longest_book && is_mark mark (byte_at file p) (byte_at file (p + 1))
 
--- a term by its tag; what it says is `term_at` of crates/files
+-- a term's two fields; the term that they are is `term_at` of crates/files
 abbrev pub term_stands : List ℕ → ℕ → Term
-term_stands file p = term_tagged (byte_at file p) (two_at file (p + 1))
+term_stands file p = record { tag = byte_at file p; value = two_at file (p + 1) }
 
 abbrev pub zero_term : Term
-zero_term = T.Constant 0
+zero_term = record { tag = 0; value = 0 }
 
--- a test; what it says is `test_at` of crates/files
+-- a test's fields
 abbrev pub test_stands : List ℕ → ℕ → Test
 test_stands file p =
-    if ltb p longest_book then record { comparison = comparison_numbered (byte_at file p); left = term_stands file (p + 1); right = term_stands file (p + 4) }
-    else record { comparison = C.Equal; left = zero_term; right = zero_term }
+    if ltb p longest_book then record { number = byte_at file p; left = term_stands file (p + 1); right = term_stands file (p + 4) }
+    else record { number = 0; left = zero_term; right = zero_term }
+
+-- what a term says, by its tag: `term_at` of crates/files
+abbrev pub term_said : List ℕ → ℕ → SaidTerm
+term_said file p = term_tagged (byte_at file p) (two_at file (p + 1))
+
+abbrev pub zero_said : SaidTerm
+zero_said = T.Constant 0
+
+-- what a test says: `test_at` of crates/files
+abbrev pub test_said : List ℕ → ℕ → SaidTest
+test_said file p =
+    if ltb p longest_book then record { comparison = comparison_numbered (byte_at file p); left = term_said file (p + 1); right = term_said file (p + 4) }
+    else record { comparison = C.Equal; left = zero_said; right = zero_said }
 
 -- a kind, and three bytes for each argument
 abbrev pub atom_size : List ℕ → List Kind → ℕ → ℕ

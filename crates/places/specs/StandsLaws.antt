@@ -7,8 +7,8 @@ use Rattle.std.proofs.Math.ListN.{get_or-eq_default}
 use Rattle.meaning.specs.Facts.{Kind, longest_book, most_in_rule, most_in_sweep, most_sweeps}
 use Rattle.meaning.specs.Rules.{constant, variable, Atom, equal, unequal, less, less_or_equal, Test}
 use Rattle.files.specs.Marks.{is_mark, RU, BA, TE, HE, SW}
-use Rattle.files.specs.InPlace.{byte_at, two_at, term_at, test_at, atom_at, groups_at, rule_at, comparison_of, Read, prepend, records_at}
-use Rattle.places.specs.Stands.{mark_stands, term_stands, test_stands, atom_end, records_from, atoms_from, tests_from, conditions_of, conditions_from, groups_end, sweeps_from, rule_end, rules_from}
+use Rattle.files.specs.InPlace.{byte_at, two_at, term_of, term_at, test_at, atom_at, groups_at, rule_at, comparison_of, Read, prepend, records_at}
+use Rattle.places.specs.Stands.{mark_stands, term_stands, test_stands, term_said, test_said, atom_end, records_from, atoms_from, tests_from, conditions_of, conditions_from, groups_end, sweeps_from, rule_end, rules_from}
 use Rattle.words.specs.declared.Term.TheVariants as T
 use Rattle.words.specs.declared.Comparison.TheVariants as C
 use Rattle.words.specs.Meant.{as_term, as_comparison, as_test, comparison_numbered}
@@ -62,9 +62,17 @@ from_is {A} file mark after item short letter ends (suc left) n p =
     by true read h = h
     by false read h = ap (λ (k : ℕ). record { count = k; next = p }) (sym (add-zero n))
 
+-- the fields are those of the term and of the test that InPlace reads
+pub term_is : (file : List ℕ) (p : ℕ) → term_of (term_stands file p).tag (term_stands file p).value ≡ term_at file p
+term_is file p = refl
+
+pub test-is : (file : List ℕ) (p : ℕ) → p < longest_book → let t = test_stands file p in
+    record { comparison = comparison_of t.number; left = term_of t.left.tag t.left.value; right = term_of t.right.tag t.right.value } ≡ (test_at file p).value
+test-is file p near = rw (lt-ltb p longest_book near)
+
 -- the term and the test say what InPlace reads
-pub term_is : (file : List ℕ) (p : ℕ) → as_term (term_stands file p) ≡ term_at file p
-term_is file p = by (eqb (byte_at file p) 0)
+pub term_said_is : (file : List ℕ) (p : ℕ) → as_term (term_said file p) ≡ term_at file p
+term_said_is file p = by (eqb (byte_at file p) 0)
   where
     by : (t : Bool) → as_term (if t then T.Constant (two_at file (p + 1)) else T.Variable (two_at file (p + 1))) ≡ (if t then constant (two_at file (p + 1)) else variable (two_at file (p + 1)))
     by true = refl
@@ -79,8 +87,8 @@ comparison_is number = by (eqb number 0) (eqb number 1) (eqb number 2)
     by false false true = refl
     by false false false = refl
 
-pub test-is : (file : List ℕ) (p : ℕ) → p < longest_book → as_test (test_stands file p) ≡ (test_at file p).value
-test-is file p near = rw (lt-ltb p longest_book near, comparison_is (byte_at file p), term_is file (p + 1), term_is file (p + 4))
+pub test_said_is : (file : List ℕ) (p : ℕ) → p < longest_book → as_test (test_said file p) ≡ (test_at file p).value
+test_said_is file p near = rw (lt-ltb p longest_book near, comparison_is (byte_at file p), term_said_is file (p + 1), term_said_is file (p + 4))
 
 -- past the end of the file a test of zeros stands
 term_past : (file : List ℕ) (p : ℕ) → length file ≤ p → term_at file p ≡ constant 0
@@ -88,11 +96,11 @@ term_past file p past =
     let zeros : (q : ℕ) → p ≤ q → byte_at file q ≡ 0 = λ q far. get_or-eq_default file 0 (omega (arith, past, far)) in
     rw (zeros p (omega arith), zeros (p + 1) (omega arith), zeros (p + 1 + 1) (omega arith))
 
-pub test_reads : (file : List ℕ) (p : ℕ) → length file ≤ longest_book → as_test (test_stands file p) ≡ (test_at file p).value
-test_reads file p short = by (ltb p longest_book) refl
+pub test_said_reads : (file : List ℕ) (p : ℕ) → length file ≤ longest_book → as_test (test_said file p) ≡ (test_at file p).value
+test_said_reads file p short = by (ltb p longest_book) refl
   where
-    by : (t : Bool) → ltb p longest_book ≡ t → as_test (test_stands file p) ≡ (test_at file p).value
-    by true e = test-is file p (ltb-true p longest_book e)
+    by : (t : Bool) → ltb p longest_book ≡ t → as_test (test_said file p) ≡ (test_at file p).value
+    by true e = test_said_is file p (ltb-true p longest_book e)
     by false e =
         let past : length file ≤ p = omega (arith, short, ltb-false p longest_book e) in
         let number : byte_at file p ≡ 0 = get_or-eq_default file 0 past in

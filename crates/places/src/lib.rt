@@ -6,12 +6,27 @@ ghost use Rattle.meaning.specs.Facts.{longest_book};
 ghost use Rattle.kinds.specs.Listed.{kinds_of};
 ghost use Rattle.files.specs.InPlace.{term_at, test_at};
 ghost use Rattle.words.specs.Meant.{as_term, as_test};
-ghost use Rattle.places.specs.Stands.{mark_stands, term_stands, test_stands, atom_size, Computes, records_from, atoms_from, tests_from, conditions_from, groups_end, sweeps_from, rule_end, rules_from};
+ghost use Rattle.places.specs.Stands.{mark_stands, term_stands, test_stands, term_said, test_said, atom_size, Computes, records_from, atoms_from, tests_from, conditions_from, groups_end, sweeps_from, rule_end, rules_from};
 
 use book::Book;
 use fields::{byte_at, two_at};
 use kinds::Kinds;
-use words::{Comparison, Term, Test};
+use words::Comparison;
+
+// A term: its tag (0 constant, 1 variable) and its value. What it says is a `words::Term`.
+#[derive(Clone, Copy)]
+pub struct Term {
+    pub tag: u8,
+    pub value: u16,
+}
+
+// A test: its number (0 equal, 1 unequal, 2 less, 3 less or equal) and its terms. What it says is a `words::Test`.
+#[derive(Clone, Copy)]
+pub struct Test {
+    pub number: u8,
+    pub left: Term,
+    pub right: Term,
+}
 
 // So many records, and the place after them.
 #[derive(Clone, Copy)]
@@ -37,32 +52,55 @@ pub fn is_marked(book: &[u8], at: usize, mark: &[u8; 2]) -> bool
     at < Book::LONGEST && byte_at(book, at) == mark[0] && byte_at(book, at + 1) == mark[1]
 }
 
-// The term at a place; past the end the constant 0.
+// The term at a place, whatever its tag; past the end it is of zeros.
 pub fn term_at(book: &[u8], at: usize) -> Term
-    ensures { (result ≡ term_stands book.now at) × (as_term result ≡ term_at book.now at) }
+    ensures { result ≡ term_stands book.now at }
 {
     match book.get(at) {
-        None => Term::Constant(0),
-        Some(tag) => Term::tagged(*tag, two_at(book, at + 1)),
+        None => Term { tag: 0, value: 0 },
+        Some(tag) => Term {
+            tag: *tag,
+            value: two_at(book, at + 1),
+        },
     }
 }
 
-// The test whose number stands at a place; past the longest book one of zeros.
-#[tactic(auto, using(crate::specs::StandsLaws::test_reads))]
+// The test whose number stands at a place, whatever the number; past the longest book one of zeros.
 pub fn test_at(book: &[u8], at: usize) -> Test
-    ensures { (result ≡ test_stands book.now at) × (length book.now ≤ longest_book → as_test result ≡ (test_at book.now at).value) }
+    ensures { result ≡ test_stands book.now at }
 {
     if Book::LONGEST <= at {
         return Test {
-            comparison: Comparison::Equal,
-            left: Term::Constant(0),
-            right: Term::Constant(0),
+            number: 0,
+            left: Term { tag: 0, value: 0 },
+            right: Term { tag: 0, value: 0 },
         };
     }
     Test {
-        comparison: Comparison::from(byte_at(book, at)),
+        number: byte_at(book, at),
         left: term_at(book, at + 1),
         right: term_at(book, at + 4),
+    }
+}
+
+// What the term at a place says: a constant, or by any other tag than 0 a variable.
+pub fn term_said(book: &[u8], at: usize) -> words::Term
+    ensures { (result ≡ term_said book.now at) × (as_term result ≡ term_at book.now at) }
+{
+    let term = term_at(book, at);
+    words::Term::tagged(term.tag, term.value)
+}
+
+// What the test says whose number stands at a place: by any number above 2 it is of less or equal.
+#[tactic(auto, using(crate::specs::StandsLaws::test_said_reads))]
+pub fn test_said(book: &[u8], at: usize) -> words::Test
+    ensures { (result ≡ test_said book.now at) × (length book.now ≤ longest_book → as_test result ≡ (test_at book.now at).value) }
+{
+    let test = test_at(book, at);
+    words::Test {
+        comparison: Comparison::from(test.number),
+        left: words::Term::tagged(test.left.tag, test.left.value),
+        right: words::Term::tagged(test.right.tag, test.right.value),
     }
 }
 
