@@ -43,17 +43,10 @@ fn say_bind(rt: HostRuntime, argument: Argument, register: u8) {
     part(rt, " register ", register);
 }
 
-// A row's argument is compared with a register.
-fn say_same(rt: HostRuntime, argument: Argument, register: u8, target: u16) {
-    say_argument(rt, "SAME ", argument);
-    part(rt, " register ", register);
-    otherwise(rt, target);
-}
-
-// A row's argument is compared with a value.
-fn say_lit(rt: HostRuntime, argument: Argument, value: u16, target: u16) {
-    say_argument(rt, "LIT ", argument);
-    part(rt, " value ", value);
+// A row's argument is compared with a register or a value.
+fn say_compared(rt: HostRuntime, name: &str, argument: Argument, with: Term, target: u16) {
+    say_argument(rt, name, argument);
+    say_term(rt, with);
     otherwise(rt, target);
 }
 
@@ -87,12 +80,18 @@ fn say_word(rt: HostRuntime, word: Word) {
             argument,
             register,
             target,
-        } => say_same(rt, argument, register, target),
+        } => say_compared(
+            rt,
+            "SAME ",
+            argument,
+            Term::Variable(u16::from(register)),
+            target,
+        ),
         Word::Lit {
             argument,
             value,
             target,
-        } => say_lit(rt, argument, value, target),
+        } => say_compared(rt, "LIT ", argument, Term::Constant(value), target),
         Word::Test { test, target } => say_test(rt, test, target),
         Word::Keep => say(rt, "KEEP"),
         Word::Put { kind } => part(rt, "PUT ", kind),
