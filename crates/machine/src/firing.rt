@@ -49,7 +49,8 @@ impl Space {
 }
 
 // The facts of a class among so many made ones are copied, in order, to the rows from the first on. (The two arrays are those of `Rows` or of
-// `MadeCards`, which differ in length.)
+// `MadeCards`, which differ in length; inlined, each call knows its lengths.)
+#[inline]
 fn lay(
     kinds: &Kinds,
     card: bool,
