@@ -2,12 +2,12 @@
 // text stands beside it.
 use std::fmt::Display;
 use strip::Strip;
-use terminal::say;
-use words::{Argument, Term, Test, Word};
+use terminal::{say, say_bytes};
+use words::{Argument, Class, Term, Test, Word};
 
-// A text, and a number behind it.
-fn part(rt: HostRuntime, text: impl Display + Drop, number: impl Display + Drop) {
-    say(rt, text);
+// A text, and a number behind it. (The text goes as its bytes, since the longest strip has thousands of words.)
+fn part(rt: HostRuntime, text: &str, number: impl Display + Drop) {
+    say_bytes(rt, text.as_bytes());
     let _ = rt.print(number);
 }
 
@@ -27,6 +27,14 @@ fn say_term(rt: HostRuntime, term: Term) {
     match term {
         Term::Constant(value) => part(rt, " value ", value),
         Term::Variable(register) => part(rt, " register ", register),
+    }
+}
+
+// A kind's class and arity.
+fn say_kind(rt: HostRuntime, class: Class, arity: u8) {
+    match class {
+        Class::Card => part(rt, "KIND card ", arity),
+        Class::Notice => part(rt, "KIND notice ", arity),
     }
 }
 
@@ -52,7 +60,7 @@ fn say_compared(rt: HostRuntime, name: &str, argument: Argument, with: Term, tar
 
 // Two terms are compared.
 fn say_test(rt: HostRuntime, test: Test, target: u16) {
-    say(rt, "TEST");
+    say_bytes(rt, b"TEST");
     say_term(rt, test.left);
     say(rt, format_args!(" {}", test.comparison));
     say_term(rt, test.right);
@@ -68,7 +76,7 @@ fn say_arg(rt: HostRuntime, position: u8, term: Term) {
 // A word's name and fields.
 fn say_word(rt: HostRuntime, word: Word) {
     match word {
-        Word::Kind { class, arity } => part(rt, format_args!("KIND {class} "), arity),
+        Word::Kind { class, arity } => say_kind(rt, class, arity),
         Word::Open { cursor } => part(rt, "OPEN ", cursor),
         Word::Seek {
             cursor,
@@ -93,12 +101,12 @@ fn say_word(rt: HostRuntime, word: Word) {
             target,
         } => say_compared(rt, "LIT ", argument, Term::Constant(value), target),
         Word::Test { test, target } => say_test(rt, test, target),
-        Word::Keep => say(rt, "KEEP"),
+        Word::Keep => say_bytes(rt, b"KEEP"),
         Word::Put { kind } => part(rt, "PUT ", kind),
         Word::Arg { position, term } => say_arg(rt, position, term),
         Word::Jump { target } => part(rt, "JUMP ", target),
         Word::Fire { rule } => part(rt, "FIRE ", rule),
-        Word::Quiet => say(rt, "QUIET"),
+        Word::Quiet => say_bytes(rt, b"QUIET"),
     }
 }
 
@@ -107,8 +115,8 @@ pub fn say_strip(rt: HostRuntime, strip: &[u8]) {
     let (words, _) = strip.as_chunks::<{ Strip::WORD }>();
     for (i, bytes) in words.iter().enumerate() {
         let _ = rt.print(i);
-        say(rt, " ");
+        say_bytes(rt, b" ");
         say_word(rt, Word::from(*bytes));
-        say(rt, "\n");
+        say_bytes(rt, b"\n");
     }
 }
